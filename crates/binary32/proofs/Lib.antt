@@ -1,1 +1,2 @@
 pub mod NanBits
+pub mod Finite

@@ -1,0 +1,28 @@
+-- `cube::all_finite` tells what `allFinite` does.
+use mathlib.Core.Path.{_≡_, refl}
+use mathlib.Core.Bool.{Bool, true, false, _&&_, and-true}
+use mathlib.Core.List.{[], _∷_, map, foldr}
+use lib.Ieee.{Float, binary32, add, sub, eq, ofBits}
+use lib.Ieee.Scale.{finite}
+use Rattle.binary32.proofs.Finite.{minus-itself, both-finite, is-nought}
+use Rattle.cube.specs.Corners.{allFinite}
+use Rattle.cube.proofs.all_finite.Statement.{statement}
+use Rattle.cube.proofs.all_finite.Tie as tie
+
+and-assoc : (p q r : Bool) → p && q && r ≡ p && (q && r)
+and-assoc true q r = refl
+and-assoc false q r = refl
+
+told : (a b c d e f g h : Float)
+    → eq (add binary32
+    (add binary32 (add binary32 (sub binary32 a a) (sub binary32 b b)) (add binary32 (sub binary32 c c) (sub binary32 d d)))
+    (add binary32 (add binary32 (sub binary32 e e) (sub binary32 f f)) (add binary32 (sub binary32 g g) (sub binary32 h h)))) (ofBits binary32 0)
+    ≡ foldr _&&_ true (map finite (a ∷ b ∷ c ∷ d ∷ e ∷ f ∷ g ∷ h ∷ []))
+told a b c d e f g h = simp (minus-itself, both-finite, and-assoc) (rw (is-nought, and-true))
+
+returns : tie.Need-returns
+unfolding allFinite
+returns c = told _ _ _ _ _ _ _ _
+
+pub all-finite-spec : {M : Type 1} → statement M
+all-finite-spec = tie.close (tie.spec returns)

@@ -1,0 +1,25 @@
+-- Document 01, 'A choice': the corners c0 to c7 of a cube. Definitions only.
+use Prim.Native.Nat.{ℕ}
+use mathlib.Core.Bool.{Bool, true, _&&_, cond}
+use mathlib.Core.List.{List, [], _∷_, map, foldr}
+use lib.ListN.{getD}
+use lib.Dec.{ltb}
+use lib.Ieee.{Float, nan}
+use lib.Ieee.Scale.{finite}
+use Rattle.cube.specs.declared.Cube.{Cube}
+
+unfoldable pub corners : Cube → List Float
+corners q = q .c0 ∷ q .c1 ∷ q .c2 ∷ q .c3 ∷ q .c4 ∷ q .c5 ∷ q .c6 ∷ q .c7 ∷ []
+
+-- the value at corner k of eight values, and a NaN past corner 7
+unfoldable pub valueAt : List Float → ℕ → Float
+valueAt values k = cond (ltb k 8) (getD values k nan) nan
+
+unfoldable pub cornerOf : Cube → ℕ → Float
+unfolding corners valueAt
+cornerOf q k = valueAt (corners q) k
+
+-- what refusal 3 asks: no corner is NaN or infinite
+unfoldable pub allFinite : Cube → Bool
+unfolding corners
+allFinite q = foldr _&&_ true (map finite (corners q))

@@ -1,0 +1,80 @@
+// The cube's types: document 01, 'Places and their forms', with its refusals by name.
+// `Cube` holds the eight corner values; `Face`, `EdgeNo` and `Corner` keep the three kinds of number
+// apart. Public: `values`, `value_at`, `all_finite`, `number`.
+ghost use mathlib.Core.Path.{_≡_};
+ghost use Rattle.cube.specs.Corners.{corners, valueAt, allFinite};
+ghost use Rattle.cube.specs.Refusals.{refusalNumber};
+
+// The corner values c0 to c7.
+pub struct Cube {
+    pub c0: f32,
+    pub c1: f32,
+    pub c2: f32,
+    pub c3: f32,
+    pub c4: f32,
+    pub c5: f32,
+    pub c6: f32,
+    pub c7: f32,
+}
+
+// A signed face number: -6..-1 and 1..6 are faces.
+pub struct Face(pub i8);
+
+// An edge number: 0..11 are edges.
+pub struct EdgeNo(pub i8);
+
+// A corner number: 0..7 are corners.
+pub struct Corner(pub u8);
+
+// Why something is refused. `number` gives document 01's number.
+pub enum Refusal {
+    NoCase,
+    NoConfiguration,
+    NotFinite,
+    NoFace,
+    NoEdge,
+    UnevenLists,
+    NoRoom,
+    Malformed,
+    OutsideTable,
+}
+
+pub fn number(why: Refusal) -> u8
+    ensures { λ r. ⌜ r ≡ refusalNumber why ⌝ }
+{
+    match why {
+        Refusal::NoCase => 1,
+        Refusal::NoConfiguration => 2,
+        Refusal::NotFinite => 3,
+        Refusal::NoFace => 4,
+        Refusal::NoEdge => 5,
+        Refusal::UnevenLists => 6,
+        Refusal::NoRoom => 7,
+        Refusal::Malformed => 8,
+        Refusal::OutsideTable => 9,
+    }
+}
+
+// The corner values in their order, for reads at a corner that varies.
+pub fn values(q: Cube) -> [f32; 8]
+    ensures { λ r. ⌜ r ≡ corners q ⌝ }
+{
+    [q.c0, q.c1, q.c2, q.c3, q.c4, q.c5, q.c6, q.c7]
+}
+
+// The value at a corner, and a NaN past corner 7.
+pub fn value_at(values: &[f32; 8], k: Corner) -> f32
+    ensures { λ r. ⌜ r ≡ valueAt (now (values .entry)) (k .0) ⌝ }
+{
+    let i = k.0 as usize;
+    if i < 8 { values[i] } else { 0.0 / 0.0 }
+}
+
+// Whether no corner is NaN or infinite: x - x is 0 where x is finite, and a NaN elsewhere.
+pub fn all_finite(q: Cube) -> bool
+    ensures { λ r. ⌜ r ≡ allFinite q ⌝ }
+{
+    let low = ((q.c0 - q.c0) + (q.c1 - q.c1)) + ((q.c2 - q.c2) + (q.c3 - q.c3));
+    let high = ((q.c4 - q.c4) + (q.c5 - q.c5)) + ((q.c6 - q.c6) + (q.c7 - q.c7));
+    low + high == 0.0
+}
