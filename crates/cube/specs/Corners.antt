@@ -1,5 +1,5 @@
 -- Document 01, 'A choice': the corners c0 to c7 of a cube. Definitions only.
-use Prim.Native.Nat.{ℕ}
+use Prim.Native.Nat.{ℕ, _*_, _/_, _%_, _^_}
 use mathlib.Core.Bool.{Bool, true, _&&_, cond}
 use mathlib.Core.List.{List, [], _∷_, map, foldr}
 use lib.ListN.{getD}
@@ -10,6 +10,10 @@ use Rattle.cube.specs.declared.Cube.{Cube}
 
 unfoldable pub corners : Cube → List Float
 corners q = q .c0 ∷ q .c1 ∷ q .c2 ∷ q .c3 ∷ q .c4 ∷ q .c5 ∷ q .c6 ∷ q .c7 ∷ []
+
+-- a table of corners as one number: the corner at place k is the hex digit there, by its last three bits
+abbrev pub digitOf : ℕ → ℕ → ℕ
+digitOf column k = column / 2 ^ (4 * k) % 8
 
 -- the value at corner k of eight values, and a NaN past corner 7
 unfoldable pub valueAt : List Float → ℕ → Float

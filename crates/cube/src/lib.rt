@@ -1,8 +1,9 @@
 // The cube's types: document 01, 'Places and their forms', with its refusals by name.
 // `Cube` holds the eight corner values; `Face`, `EdgeNo` and `Corner` keep the three kinds of number
-// apart. Public: `values`, `value_at`, `all_finite`, `number`.
+// apart. Public: `take_apart`, `corner_in`, `values`, `value_at`, `all_finite`, `number`.
 ghost use mathlib.Core.Path.{_≡_};
-ghost use Rattle.cube.specs.Corners.{corners, valueAt, allFinite};
+ghost use Rattle.cube.specs.Corners.{corners, digitOf, valueAt, allFinite};
+ghost use Rattle.cube.specs.Signs.{splitValue};
 ghost use Rattle.cube.specs.Refusals.{refusalNumber};
 
 // The corner values c0 to c7.
@@ -53,6 +54,32 @@ pub fn number(why: Refusal) -> u8
         Refusal::Malformed => 8,
         Refusal::OutsideTable => 9,
     }
+}
+
+// A signed number taken apart: `NotBelow(k)` is k, and `Below(k)` is -1 - k.
+pub enum Split {
+    NotBelow(u8),
+    Below(u8),
+}
+
+pub fn take_apart(n: i8) -> Split
+    ensures { λ r. ⌜ splitValue r ≡ n ⌝ }
+{
+    if n < 0 {
+        Split::Below((-1 - n) as u8)
+    } else {
+        Split::NotBelow(n as u8)
+    }
+}
+
+// The corner at place `k` of a table that is written as one number, a hex digit for each place.
+pub fn corner_in(column: u64, k: u32) -> Corner
+    ensures { λ r. ⌜ r .0 ≡ digitOf column k ⌝ }
+{
+    if 16 <= k {
+        return Corner(0);
+    }
+    Corner(((column >> (4 * k)) % 8) as u8)
 }
 
 // The corner values in their order, for reads at a corner that varies.

@@ -1,0 +1,78 @@
+// The face test: document 01, 'Face test'. Public: `test_face`, which refuses, and `face_answer`, the
+// rule alone, for callers that have tested their cube and face.
+ghost use mathlib.Core.Path.{_≡_};
+ghost use Rattle.binary32.specs.Numbers.{f32};
+ghost use Rattle.cube.specs.Corners.{digitOf, valueAt};
+ghost use Rattle.face.specs.Face.{rule, faceOf, said, testFaceOf};
+ghost use Rattle.face.specs.Columns.{placeOf};
+use cube::Cube;
+use cube::Face;
+use cube::Refusal;
+use cube::Split;
+
+pub enum FaceAnswer {
+    Answer(bool),
+    Refused(Refusal),
+}
+
+// Corners a, b, c and d of each face: the hex digit at place |face|.
+const A: u64 = 0x403_2100;
+
+const B: u64 = 0x737_6540;
+
+const C: u64 = 0x624_7650;
+
+const D: u64 = 0x510_3210;
+
+// |face|, and 0 where there is no such face.
+fn place(face: Face) -> u32
+    ensures { λ r. ⌜ r ≡ placeOf (face .0) ⌝ }
+{
+    match cube::take_apart(face.0) {
+        Split::NotBelow(k) => { if k <= 6 { k as u32 } else { 0 } }
+        Split::Below(k) => { if k < 6 { k as u32 + 1 } else { 0 } }
+    }
+}
+
+fn join(face: Face, a: f32, b: f32, c: f32, d: f32) -> bool
+    ensures { λ r. ⌜ r ≡ rule f32 (face .0) a b c d ⌝ }
+{
+    let epsilon = 0.00000011920929f32;
+    let val = a * c - b * d;
+    if (val < epsilon) & (-epsilon < val) {
+        return 0 < face.0;
+    }
+    face.0 as f32 * a * val >= 0.0
+}
+
+// The value at the corner that a column has at place `k`.
+fn read(values: &[f32; 8], column: u64, k: u32) -> f32
+    ensures { λ r. ⌜ r ≡ valueAt (now (values .entry)) (digitOf column k) ⌝ }
+{
+    cube::value_at(values, cube::corner_in(column, k))
+}
+
+// The rule's answer. A number that is no face is given corner 0 four times.
+pub fn face_answer(q: Cube, face: Face) -> bool
+    ensures { λ r. ⌜ r ≡ faceOf q (face .0) ⌝ }
+{
+    let values = cube::values(q);
+    let k = place(face);
+    let a = read(&values, A, k);
+    let b = read(&values, B, k);
+    let c = read(&values, C, k);
+    let d = read(&values, D, k);
+    join(face, a, b, c, d)
+}
+
+pub fn test_face(q: Cube, face: Face) -> FaceAnswer
+    ensures { λ r. ⌜ said r ≡ testFaceOf q (face .0) ⌝ }
+{
+    if place(face) == 0 {
+        return FaceAnswer::Refused(Refusal::NoFace);
+    }
+    if !cube::all_finite(q) {
+        return FaceAnswer::Refused(Refusal::NotFinite);
+    }
+    FaceAnswer::Answer(face_answer(q, face))
+}
