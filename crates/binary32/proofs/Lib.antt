@@ -1,2 +1,3 @@
-pub mod NanBits
 pub mod Finite
+pub mod Magnitudes
+pub mod NanBits

@@ -8,12 +8,12 @@ use lib.Dec.{T, leb, eqb, eqb→eq, leb→le, nleb→lt, lit<}
 use lib.IntN.{ℤ, natAbs}
 use lib.ListN.{getD, length, List·getD-eq-default}
 use lib.Ieee.{Float}
-use Rattle.binary32.specs.Numbers.{f32}
 use Rattle.cube.specs.declared.Cube.{Cube}
 use Rattle.cube.specs.Corners.{corners, digitOf, valueAt, cornerOf}
 use Rattle.cube.proofs.Table.{allUnder, under}
-use Rattle.face.specs.Face.{faceCorners, faceCorner, rule, faceBy, faceOf}
-use Rattle.face.specs.Columns.{placeOf}
+use Rattle.face.specs.declared.Square.{Square}
+use Rattle.face.specs.Face.{faceCorners, faceCorner}
+use Rattle.face.specs.Columns.{placeOf, squareOf}
 
 columns : List ℕ
 columns = 0x403_2100 ∷ 0x737_6540 ∷ 0x624_7650 ∷ 0x510_3210 ∷ []
@@ -48,19 +48,14 @@ digit n j h = go (leb (natAbs n) 6) (leb→le (natAbs n) 6) (nleb→lt (natAbs n
     go true l g = row-digit j (natAbs n) h (l tt)
     go false l g = no-row j (natAbs n) (g tt) ∙ digit-none j h
 
--- ---- the rule's answer from what the code reads
+-- ---- what the code reads
 module _ (q : Cube) (n : ℤ) (vs : List Float) (k : ℕ) (ev : vs ≡ corners q) (ek : k ≡ placeOf n) where
-  at : (j : ℕ) → j < 4 → valueAt vs (digitOf (getD columns j 0) k) ≡ cornerOf q (faceCorner n j)
+  at : (j : ℕ) → j < 4 → (x : Float) → x ≡ valueAt vs (digitOf (getD columns j 0) k) → x ≡ cornerOf q (faceCorner n j)
   unfolding cornerOf
-  at j h = rw (ev, ek, digit n j h)
+  at j h x e = rw (e, ev, ek, digit n j h)
 
-  pub answered : (r : Bool) (a b c d : Float)
+  pub squared : (a b c d : Float)
       → a ≡ valueAt vs (digitOf 0x403_2100 k) → b ≡ valueAt vs (digitOf 0x737_6540 k) → c ≡ valueAt vs (digitOf 0x624_7650 k) → d ≡ valueAt vs (digitOf 0x510_3210 k)
-      → r ≡ rule f32 n a b c d → r ≡ faceOf q n
-  unfolding faceOf columns
-  answered r a b c d ea eb ec ed e =
-      let a' = ea ∙ at 0 (lit< tt) in
-      let b' = eb ∙ at 1 (lit< tt) in
-      let c' = ec ∙ at 2 (lit< tt) in
-      let d' = ed ∙ at 3 (lit< tt) in
-      e ∙ (λ i. rule f32 n (a' i) (b' i) (c' i) (d' i))
+      → _≡_ {A = Square} (record { a = a; b = b; c = c; d = d }) (squareOf q n)
+  unfolding columns
+  squared a b c d ea eb ec ed = λ i. record { a = at 0 (lit< tt) a ea i; b = at 1 (lit< tt) b eb i; c = at 2 (lit< tt) c ec i; d = at 3 (lit< tt) d ed i }

@@ -1,3 +1,6 @@
+pub mod Agreement
 mod Columns
+mod Decision
+pub mod Laws
 mod Places
 mod Ties

@@ -1,2 +1,4 @@
-pub mod Face
 pub mod Columns
+pub mod Face
+pub mod Laws
+pub mod Meeting

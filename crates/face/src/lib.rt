@@ -4,7 +4,8 @@ ghost use mathlib.Core.Path.{_≡_};
 ghost use Rattle.binary32.specs.Numbers.{f32};
 ghost use Rattle.cube.specs.Corners.{digitOf, valueAt};
 ghost use Rattle.face.specs.Face.{rule, faceOf, said, testFaceOf};
-ghost use Rattle.face.specs.Columns.{placeOf};
+ghost use Rattle.face.specs.Columns.{placeOf, squareOf};
+ghost use Rattle.face.specs.Laws.{FaceLawsAt};
 use cube::Cube;
 use cube::Face;
 use cube::Refusal;
@@ -13,6 +14,22 @@ use cube::Split;
 pub enum FaceAnswer {
     Answer(bool),
     Refused(Refusal),
+}
+
+// The values at the corners of a face, in the face's order.
+pub struct Square {
+    pub a: f32,
+    pub b: f32,
+    pub c: f32,
+    pub d: f32,
+}
+
+// What the comparison of two faces says: whether the answers are equal, or that the faces do not meet
+// with the same alternating values in range.
+pub enum Compared {
+    Equal(bool),
+    Apart,
+    NotCompared(Refusal),
 }
 
 // Corners a, b, c and d of each face: the hex digit at place |face|.
@@ -52,17 +69,26 @@ fn read(values: &[f32; 8], column: u64, k: u32) -> f32
     cube::value_at(values, cube::corner_in(column, k))
 }
 
-// The rule's answer. A number that is no face is given corner 0 four times.
-pub fn face_answer(q: Cube, face: Face) -> bool
-    ensures { λ r. ⌜ r ≡ faceOf q (face .0) ⌝ }
+fn square_of(q: Cube, face: Face) -> Square
+    ensures { λ r. ⌜ r ≡ squareOf q (face .0) ⌝ }
 {
     let values = cube::values(q);
     let k = place(face);
-    let a = read(&values, A, k);
-    let b = read(&values, B, k);
-    let c = read(&values, C, k);
-    let d = read(&values, D, k);
-    join(face, a, b, c, d)
+    Square {
+        a: read(&values, A, k),
+        b: read(&values, B, k),
+        c: read(&values, C, k),
+        d: read(&values, D, k),
+    }
+}
+
+// The rule's answer. A number that is no face is given corner 0 four times.
+pub fn face_answer(q: Cube, face: Face) -> bool
+    ensures answer { λ r. ⌜ r ≡ faceOf q (face .0) ⌝ }
+    ensures laws { λ r. ⌜ FaceLawsAt q (face .0) r ⌝ }
+{
+    let s = square_of(q, face);
+    join(face, s.a, s.b, s.c, s.d)
 }
 
 pub fn test_face(q: Cube, face: Face) -> FaceAnswer

@@ -22,7 +22,7 @@ face-answer-requires : tie.Need-face-answer-requires
 face-answer-requires c κs = search needs
 
 returns-3 : tie.Need-returns-3
-returns-3 c = by-answer _ _ _ (c .before .before .before .before .place .ensures) (c .before .before .before .if1 .left) (sym (c .before .before .all-finite .ensures) ∙ not-false _ (c .before .if2 .left)) _ (c .face-answer .ensures)
+returns-3 c = by-answer _ _ _ (c .before .before .before .before .place .ensures) (c .before .before .before .if1 .left) (sym (c .before .before .all-finite .ensures) ∙ not-false _ (c .before .if2 .left)) _ (c .face-answer .ensures .0)
 
 pub test-face-spec : {M : Type 1} → statement M
 test-face-spec =
