@@ -1,3 +1,5 @@
+pub mod Bools
 pub mod Finite
 pub mod Magnitudes
 pub mod NanBits
+pub mod Same

@@ -7,14 +7,16 @@ use Prim.Native.Nat.{ℕ}
 use lib.Dec.{T, leb}
 use lib.IntN.{ℤ, natAbs}
 use lib.ListN.{getD}
-use lib.Ieee.{Float, nan}
+use lib.Ieee.{Float, eq}
 use Rattle.binary32.specs.Numbers.{f32}
+use Rattle.binary32.proofs.Bools.{all-four}
+use Rattle.binary32.proofs.Same.{Same, eq→same}
 use Rattle.cube.specs.declared.Cube.{Cube}
 use Rattle.cube.specs.Corners.{cornerOf}
 use Rattle.face.specs.Face.{faceCorners, faceCorner, rule, faceOf, isFace, isPositive}
 use Rattle.face.specs.Laws.{alternate}
-use Rattle.face.specs.Meeting.{valuesAt, Meets, one-three, two-four, five-six, alternateAt, FacesAgree}
-use Rattle.face.proofs.Decision.{Square, square, turned, kept, decided, kept-turned}
+use Rattle.face.specs.Meeting.{sameValues, Meets, one-three, two-four, five-six, alternateAt, FacesAgree}
+use Rattle.face.proofs.Decision.{Square, square, sizes, turned, rule-same, kept, decided, kept-turned}
 
 beq-refl : (p : Bool) → Bool·beq p p ≡ true
 beq-refl true = refl
@@ -59,34 +61,52 @@ module _ (k : Cube) (n : ℤ) (f : ℕ) (e : natAbs n ≡ f) where
 
 -- ---- the three pairs
 module _ (k : Cube) (n : ℤ) (l : Cube) (p : ℤ) (f g : ℕ) (en : natAbs n ≡ f) (ep : natAbs p ≡ g) (tf : T (leb 1 f && leb f 6)) (tg : T (leb 1 g && leb g 6)) (t : T (alternateAt k n)) where
-  here : Square (cornerOf k (entry f 0)) (cornerOf k (entry f 1)) (cornerOf k (entry f 2)) (cornerOf k (entry f 3))
-  here = square (cornerOf k (entry f 0)) (cornerOf k (entry f 1)) (cornerOf k (entry f 2)) (cornerOf k (entry f 3)) (alternate-of k n f en t)
+  abbrev a : Float
+  a = cornerOf k (entry f 0)
 
-  -- the other cube reads the values as d, c, b, a
-  across : cornerOf l (entry g 0) ≡ cornerOf k (entry f 3) → cornerOf l (entry g 1) ≡ cornerOf k (entry f 2) → cornerOf l (entry g 2) ≡ cornerOf k (entry f 1)
-      → cornerOf l (entry g 3) ≡ cornerOf k (entry f 0) → Bool·beq (faceOf k n) (faceOf l p) ≡ Bool·beq (isPositive n) (isPositive p)
-  across e0 e1 e2 e3 =
-      ap (λ (r : Bool). Bool·beq (faceOf k n) r) (face-at l p g ep ∙ (λ i. rule f32 p (e0 i) (e1 i) (e2 i) (e3 i)))
-      ∙ ap (λ (r : Bool). Bool·beq r (rule f32 p (cornerOf k (entry f 3)) (cornerOf k (entry f 2)) (cornerOf k (entry f 1)) (cornerOf k (entry f 0)))) (face-at k n f en)
-      ∙ other-side n p (face-number k n f en tf) (face-number l p g ep tg) _ _ _ _ here
+  abbrev b : Float
+  b = cornerOf k (entry f 1)
 
-  -- the other cube reads them as a, b, c, d
-  along : cornerOf l (entry g 0) ≡ cornerOf k (entry f 0) → cornerOf l (entry g 1) ≡ cornerOf k (entry f 1) → cornerOf l (entry g 2) ≡ cornerOf k (entry f 2)
-      → cornerOf l (entry g 3) ≡ cornerOf k (entry f 3) → Bool·beq (faceOf k n) (faceOf l p) ≡ Bool·beq (isPositive n) (isPositive p)
-  along e0 e1 e2 e3 =
-      ap (λ (r : Bool). Bool·beq (faceOf k n) r) (face-at l p g ep ∙ (λ i. rule f32 p (e0 i) (e1 i) (e2 i) (e3 i)))
-      ∙ ap (λ (r : Bool). Bool·beq r (rule f32 p (cornerOf k (entry f 0)) (cornerOf k (entry f 1)) (cornerOf k (entry f 2)) (cornerOf k (entry f 3)))) (face-at k n f en)
-      ∙ same-side n p (face-number k n f en tf) (face-number l p g ep tg) _ _ _ _ here
+  abbrev c : Float
+  c = cornerOf k (entry f 2)
 
--- value j of the one list is value j of the other
-paired : {xs ys : List Float} (j : ℕ) → xs ≡ ys → getD ys j nan ≡ getD xs j nan
-paired j e = ap (λ (zs : List Float). getD zs j nan) (sym e)
+  abbrev d : Float
+  d = cornerOf k (entry f 3)
+
+  -- the other cube reads w, x, y, z where this one's answer would be that for w', x', y', z'
+  met : (w x y z : Float) → Same w (cornerOf l (entry g 0)) → Same x (cornerOf l (entry g 1)) → Same y (cornerOf l (entry g 2)) → Same z (cornerOf l (entry g 3))
+      → Bool·beq (rule f32 n a b c d) (rule f32 p w x y z) ≡ Bool·beq (isPositive n) (isPositive p)
+      → Bool·beq (faceOf k n) (faceOf l p) ≡ Bool·beq (isPositive n) (isPositive p)
+  met w x y z sw sx sy sz h =
+      (λ i. Bool·beq (face-at k n f en i) ((face-at l p g ep ∙ sym (rule-same p (face-number l p g ep tg) w x y z _ _ _ _ sw sx sy sz)) i)) ∙ h
+
+  -- it reads them as d, c, b, a
+  across : T (eq d (cornerOf l (entry g 0))) → T (eq c (cornerOf l (entry g 1))) → T (eq b (cornerOf l (entry g 2))) → T (eq a (cornerOf l (entry g 3)))
+      → Bool·beq (faceOf k n) (faceOf l p) ≡ Bool·beq (isPositive n) (isPositive p)
+  across ed ec eb ea =
+      let u = alternate-of k n f en t in
+      let z = sizes a b c d u in
+      met d c b a (eq→same d _ (z .3) ed) (eq→same c _ (z .2) ec) (eq→same b _ (z .1) eb) (eq→same a _ (z .0) ea)
+      (other-side n p (face-number k n f en tf) (face-number l p g ep tg) a b c d (square a b c d u))
+
+  -- it reads them as a, b, c, d
+  along : T (eq a (cornerOf l (entry g 0))) → T (eq b (cornerOf l (entry g 1))) → T (eq c (cornerOf l (entry g 2))) → T (eq d (cornerOf l (entry g 3)))
+      → Bool·beq (faceOf k n) (faceOf l p) ≡ Bool·beq (isPositive n) (isPositive p)
+  along ea eb ec ed =
+      let u = alternate-of k n f en t in
+      let z = sizes a b c d u in
+      met a b c d (eq→same a _ (z .0) ea) (eq→same b _ (z .1) eb) (eq→same c _ (z .2) ec) (eq→same d _ (z .3) ed)
+      (same-side n p (face-number k n f en tf) (face-number l p g ep tg) a b c d (square a b c d u))
+
+each : (w x y z w' x' y' z' : Float) → T (sameValues (w ∷ x ∷ y ∷ z ∷ []) (w' ∷ x' ∷ y' ∷ z' ∷ [])) → T (eq w w') × T (eq x x') × T (eq y y') × T (eq z z')
+unfolding sameValues
+each w x y z w' x' y' z' t = all-four (eq w w') (eq x x') (eq y y') (eq z z') t
 
 pub by-signs : (k : Cube) (n : ℤ) (l : Cube) (p : ℤ) → Meets k n l p → T (alternateAt k n) → Bool·beq (faceOf k n) (faceOf l p) ≡ Bool·beq (isPositive n) (isPositive p)
 unfolding faceCorners
-by-signs k n l p (one-three en ep e) t = across k n l p 1 3 en ep tt tt t (paired 3 e) (paired 2 e) (paired 1 e) (paired 0 e)
-by-signs k n l p (two-four en ep e) t = across k n l p 2 4 en ep tt tt t (paired 3 e) (paired 2 e) (paired 1 e) (paired 0 e)
-by-signs k n l p (five-six en ep e) t = along k n l p 5 6 en ep tt tt t (paired 0 e) (paired 1 e) (paired 2 e) (paired 3 e)
+by-signs k n l p (one-three en ep e) t = let h = each _ _ _ _ _ _ _ _ e in across k n l p 1 3 en ep tt tt t (h .3) (h .2) (h .1) (h .0)
+by-signs k n l p (two-four en ep e) t = let h = each _ _ _ _ _ _ _ _ e in across k n l p 2 4 en ep tt tt t (h .3) (h .2) (h .1) (h .0)
+by-signs k n l p (five-six en ep e) t = let h = each _ _ _ _ _ _ _ _ e in along k n l p 5 6 en ep tt tt t (h .0) (h .1) (h .2) (h .3)
 
 -- ---- as it is stated
 like : (p q r s : Bool) → Bool·beq p q ≡ Bool·beq r s → (p ≡ q) → (r ≡ s)

@@ -4,19 +4,24 @@ use mathlib.Core.Path.{_≡_, refl, sym, ap, _∙_, subst}
 use mathlib.Core.Logic.{_⊎_, inl, inr}
 use mathlib.Core.Bool.{Bool, true, false, not, _&&_, _||_, cond, Bool·beq, true≢false}
 use Prim.Native.Nat.{ℕ, suc, _≤_, _<_}
-use native.Mathlib.Nat.{zero-lt-suc, mul-one}
+use native.Mathlib.Nat.{zero-lt-suc, mul-one, le-trans}
 use native.Mathlib.Omega.{arith}
 use borrow.Author.Tests.{lt-ltb}
-use lib.Dec.{T, leb, ltb, leb→le, lit<}
+use lib.Dec.{T, leb, ltb, leb→le, lit<, lit≤}
 use lib.IntN.{ℤ, pos, negsuc, natAbs}
 use lib.Ieee.{Float, nan, inf, fin, binary32, unlike, round, neg, sub, mul, lt, le, ofBits, ofInt, isNan}
 use lib.Ieee.Fits.{and-l, and-r}
+use lib.Ieee.Back.{round-whole}
+use lib.Ieee.Exact.{HasValue}
 use lib.Ieee.Order.{round-mono}
+use lib.Ieee.Scale.{finite}
 use lib.Ieee.Positive.{positive, above, above-of-le, between, mul-mono}
 use Rattle.binary32.specs.Numbers.{f32, magnitude, epsilon}
+use Rattle.binary32.proofs.Bools.{either, four}
 use Rattle.binary32.proofs.Magnitudes.{sgn, round-told, magnitude-mul, sgn-mul, mul-comm-float, sign-test, le-mul, not-less, above-real, mul-neg, Swapped, sub-swapped}
+use Rattle.binary32.proofs.Same.{Same, same-refl, mul-same}
 use Rattle.face.specs.Face.{rule, isFace, isPositive}
-use Rattle.face.specs.Laws.{ranged, alternate}
+use Rattle.face.specs.Laws.{inRange, alternate}
 
 abbrev pub least : Float
 least = ofBits binary32 0x358637bd
@@ -41,22 +46,22 @@ minus (inf s) p = absurd p
 minus (fin true m e) p = (refl, refl)
 minus (fin false m e) p = absurd p
 
-low-end : (x : Float) → T (ranged x) → T (le least x)
-unfolding ranged
+low-end : (x : Float) → T (inRange x) → T (le least x)
+unfolding inRange
 low-end x t = and-l (le least x) (le x most) t
 
-high-end : (x : Float) → T (ranged x) → T (le x most)
-unfolding ranged
+high-end : (x : Float) → T (inRange x) → T (le x most)
+unfolding inRange
 high-end x t = and-r (le least x) (le x most) t
 
-ranged-positive : (x : Float) → T (ranged x) → T (positive x)
+in-range-positive : (x : Float) → T (inRange x) → T (positive x)
 unfolding ofBits
-ranged-positive x t = between least x most tt tt (low-end x t) (high-end x t)
+in-range-positive x t = between least x most tt tt (low-end x t) (high-end x t)
 
-product : (x y : Float) → T (ranged x) → T (ranged y) → T (positive (mul binary32 x y))
+product : (x y : Float) → T (inRange x) → T (inRange y) → T (positive (mul binary32 x y))
 product x y s t =
-    let p = ranged-positive x s in
-    let q = ranged-positive y t in
+    let p = in-range-positive x s in
+    let q = in-range-positive y t in
     between (mul binary32 least least) (mul binary32 x y) (mul binary32 most most) low high
     (mul-mono binary32 least x least y ends p ends q (low-end x s) (low-end y t))
     (mul-mono binary32 x most y most p tt q tt (high-end x s) (high-end y t))
@@ -70,6 +75,12 @@ product x y s t =
     high : T (positive (mul binary32 most most))
     high = unfold mul in tt
 
+plus-size : (x : Float) → T (inRange x) → T (positive (magnitude x))
+plus-size x t = let p = in-range-positive x t in subst (λ (y : Float). T (positive y)) (sym (plus x p .0)) p
+
+minus-size : (x : Float) → T (inRange (neg x)) → T (positive (magnitude x))
+minus-size x t = let p = in-range-positive (neg x) t in subst (λ (y : Float). T (positive y)) (sym (minus x p .0)) p
+
 -- ---- four values
 pub record Square (a b c d : Float) : Type 0 where
   pub left : T (positive (mul binary32 a c))
@@ -78,10 +89,10 @@ pub record Square (a b c d : Float) : Type 0 where
   pub size-d : T (le least (magnitude d))
   pub opposed : sgn d ≡ not (sgn a)
 
-square-up : (a b c d : Float) → T (ranged a) → T (ranged (neg b)) → T (ranged c) → T (ranged (neg d)) → Square a b c d
+square-up : (a b c d : Float) → T (inRange a) → T (inRange (neg b)) → T (inRange c) → T (inRange (neg d)) → Square a b c d
 square-up a b c d ra rb rc rd =
-    let pa = plus a (ranged-positive a ra) in
-    let pd = minus d (ranged-positive (neg d) rd) in
+    let pa = plus a (in-range-positive a ra) in
+    let pd = minus d (in-range-positive (neg d) rd) in
     record {
       left = product a c ra rc;
       right = subst (λ (x : Float). T (positive x)) (sym (mul-neg binary32 b d)) (product (neg b) (neg d) rb rd);
@@ -90,10 +101,10 @@ square-up a b c d ra rb rc rd =
       opposed = pd .1 ∙ ap not (sym (pa .1));
     }
 
-square-down : (a b c d : Float) → T (ranged (neg a)) → T (ranged b) → T (ranged (neg c)) → T (ranged d) → Square a b c d
+square-down : (a b c d : Float) → T (inRange (neg a)) → T (inRange b) → T (inRange (neg c)) → T (inRange d) → Square a b c d
 square-down a b c d ra rb rc rd =
-    let pa = minus a (ranged-positive (neg a) ra) in
-    let pd = plus d (ranged-positive d rd) in
+    let pa = minus a (in-range-positive (neg a) ra) in
+    let pd = plus d (in-range-positive d rd) in
     record {
       left = subst (λ (x : Float). T (positive x)) (sym (mul-neg binary32 a c)) (product (neg a) (neg c) ra rc);
       right = product b d rb rd;
@@ -102,23 +113,21 @@ square-down a b c d ra rb rc rd =
       opposed = pd .1 ∙ ap not (sym (pa .1));
     }
 
-pub four : (p q r s : Bool) → T (p && q && r && s) → T p × T q × T r × T s
-four true true true true t = (tt, tt, tt, tt)
-four true true true false t = absurd t
-four true true false s t = absurd t
-four true false r s t = absurd t
-four false q r s t = absurd t
-
-pub either : (p q : Bool) → T (p || q) → T p ⊎ T q
-either true q t = inl tt
-either false q t = inr t
-
 pub square : (a b c d : Float) → T (alternate a b c d) → Square a b c d
 unfolding alternate
 square a b c d t =
-    elim (either (ranged a && ranged (neg b) && ranged c && ranged (neg d)) (ranged (neg a) && ranged b && ranged (neg c) && ranged d) t) [
-      | inl u ↦ let h = four (ranged a) (ranged (neg b)) (ranged c) (ranged (neg d)) u in square-up a b c d (h .0) (h .1) (h .2) (h .3)
-      | inr u ↦ let h = four (ranged (neg a)) (ranged b) (ranged (neg c)) (ranged d) u in square-down a b c d (h .0) (h .1) (h .2) (h .3)
+    elim (either (inRange a && inRange (neg b) && inRange c && inRange (neg d)) (inRange (neg a) && inRange b && inRange (neg c) && inRange d) t) [
+      | inl u ↦ let h = four (inRange a) (inRange (neg b)) (inRange c) (inRange (neg d)) u in square-up a b c d (h .0) (h .1) (h .2) (h .3)
+      | inr u ↦ let h = four (inRange (neg a)) (inRange b) (inRange (neg c)) (inRange d) u in square-down a b c d (h .0) (h .1) (h .2) (h .3)
+    ]
+
+-- all four have a size
+pub sizes : (a b c d : Float) → T (alternate a b c d) → T (positive (magnitude a)) × T (positive (magnitude b)) × T (positive (magnitude c)) × T (positive (magnitude d))
+unfolding alternate
+sizes a b c d t =
+    elim (either (inRange a && inRange (neg b) && inRange c && inRange (neg d)) (inRange (neg a) && inRange b && inRange (neg c) && inRange d) t) [
+      | inl u ↦ let h = four (inRange a) (inRange (neg b)) (inRange c) (inRange (neg d)) u in (plus-size a (h .0), minus-size b (h .1), plus-size c (h .2), minus-size d (h .3))
+      | inr u ↦ let h = four (inRange (neg a)) (inRange b) (inRange (neg c)) (inRange d) u in (minus-size a (h .0), plus-size b (h .1), minus-size c (h .2), plus-size d (h .3))
     ]
 
 -- the same four values from the other side
@@ -155,6 +164,24 @@ number (pos m) t =
 number (negsuc m) t =
     let r = round-told binary32 true (suc m) 1 in
     (r .1, subst (λ (x : Float). T (le one x)) (sym (r .0)) (unfold round in round-mono binary32 1 1 (suc m) 1 (lit< tt) (lit< tt) (subst (λ (x : ℕ). 1 ≤ x) (sym (mul-one (suc m))) (zero-lt-suc m))))
+
+-- the rule sees only the values
+has-size : (x : Float) (s : Bool) (a c : ℕ) → HasValue x s a c → T (finite x)
+has-size nan s a c h = absurd h
+has-size (inf t) s a c h = absurd h
+has-size (fin t m e) s a c h = tt
+
+number-finite : (n : ℤ) → T (isFace n) → T (finite (ofInt binary32 n))
+unfolding ofInt
+number-finite (pos m) t = has-size (round binary32 false m 1) false m 1 (round-whole binary32 false m (le-trans (leb→le m 6 (and-r (leb 1 m) (leb m 6) t)) (lit≤ tt)))
+number-finite (negsuc m) t = has-size (round binary32 true (suc m) 1) true (suc m) 1 (round-whole binary32 true (suc m) (le-trans (leb→le (suc m) 6 (and-r (leb 1 (suc m)) (leb (suc m) 6) t)) (lit≤ tt)))
+
+pub rule-same : (n : ℤ) → T (isFace n) → (a b c d a' b' c' d' : Float) → Same a a' → Same b b' → Same c c' → Same d d' → rule f32 n a b c d ≡ rule f32 n a' b' c' d'
+unfolding rule
+rule-same n t a b c d a' b' c' d' p q r s =
+    let N = ofInt binary32 n in
+    let v : sub binary32 (mul binary32 a c) (mul binary32 b d) ≡ sub binary32 (mul binary32 a' c') (mul binary32 b' d') = λ i. sub binary32 (mul-same binary32 a a' c c' p r i) (mul-same binary32 b b' d d' q s i) in
+    λ i. cond (lt (magnitude (v i)) epsilon) (isPositive n) (le (fin false 0 (pos 0)) (mul binary32 (mul-same binary32 N N a a' (same-refl N (number-finite n t)) p i) (v i)))
 
 turn : (p s t : Bool) → not (unlike (unlike (not p) s) t) ≡ Bool·beq p (not (unlike s t))
 turn true true true = refl

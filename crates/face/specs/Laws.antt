@@ -10,13 +10,13 @@ use Rattle.cube.specs.Corners.{cornerOf}
 use Rattle.face.specs.Face.{faceCorner, isPositive, isFace, rule}
 
 -- from 1e-6 as an f32 to 2 ^ 63
-unfoldable pub ranged : Float → Bool
-ranged x = le (ofBits binary32 0x358637bd) x && le x (fin false 1 (pos 63))
+unfoldable pub inRange : Float → Bool
+inRange x = le (ofBits binary32 0x358637bd) x && le x (fin false 1 (pos 63))
 
 -- term 3's premise: the signs alternate, a and c have one sign, b and d the other, and each magnitude is in the range
 unfoldable pub alternate : Float → Float → Float → Float → Bool
-unfolding ranged
-alternate a b c d = (ranged a && ranged (neg b) && ranged c && ranged (neg d)) || (ranged (neg a) && ranged b && ranged (neg c) && ranged d)
+unfolding inRange
+alternate a b c d = (inRange a && inRange (neg b) && inRange c && inRange (neg d)) || (inRange (neg a) && inRange b && inRange (neg c) && inRange d)
 
 -- r is the answer for the face number n and the values a, b, c, d
 pub record FaceLaws (n : ℤ) (a b c d : Float) (r : Bool) : Type 0 where

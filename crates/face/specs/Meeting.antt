@@ -13,8 +13,8 @@ use lib.Ieee.{Float, eq}
 use Rattle.cube.specs.declared.Cube.{Cube}
 use Rattle.cube.specs.Corners.{cornerOf, allFinite}
 use Rattle.cube.specs.Refusals.{refusalNumber}
-use Rattle.face.specs.declared.Compared.{Compared}
-use Rattle.face.specs.declared.Compared.the-variants.{Equal, Apart, NotCompared}
+use Rattle.face.specs.declared.meeting.Compared.{Compared}
+use Rattle.face.specs.declared.meeting.Compared.the-variants.{Equal, Apart, NotCompared}
 use Rattle.face.specs.Face.{faceCorners, faceCorner, faceOf, isFace, isPositive}
 use Rattle.face.specs.Laws.{alternate}
 
@@ -22,11 +22,18 @@ use Rattle.face.specs.Laws.{alternate}
 abbrev pub valuesAt : Cube → List ℕ → List Float
 valuesAt k = map (cornerOf k)
 
+-- equal as values: IEEE equality, value by value
+unfoldable pub sameValues : List Float → List Float → Bool
+sameValues [] [] = true
+sameValues [] (y ∷ ys) = false
+sameValues (x ∷ xs) [] = false
+sameValues (x ∷ xs) (y ∷ ys) = eq x y && sameValues xs ys
+
 -- Where two cubes meet, 1's corners are the other's 3,7,6,2; 2's are 0,4,7,3; 5's are 4,7,6,5, in those orders.
 pub data Meets (k : Cube) (n : ℤ) (l : Cube) (p : ℤ) : Type 0 where
-  one-three : natAbs n ≡ 1 → natAbs p ≡ 3 → valuesAt k (0 ∷ 4 ∷ 5 ∷ 1 ∷ []) ≡ valuesAt l (3 ∷ 7 ∷ 6 ∷ 2 ∷ []) → Meets k n l p
-  two-four : natAbs n ≡ 2 → natAbs p ≡ 4 → valuesAt k (1 ∷ 5 ∷ 6 ∷ 2 ∷ []) ≡ valuesAt l (0 ∷ 4 ∷ 7 ∷ 3 ∷ []) → Meets k n l p
-  five-six : natAbs n ≡ 5 → natAbs p ≡ 6 → valuesAt k (0 ∷ 3 ∷ 2 ∷ 1 ∷ []) ≡ valuesAt l (4 ∷ 7 ∷ 6 ∷ 5 ∷ []) → Meets k n l p
+  one-three : natAbs n ≡ 1 → natAbs p ≡ 3 → T (sameValues (valuesAt k (0 ∷ 4 ∷ 5 ∷ 1 ∷ [])) (valuesAt l (3 ∷ 7 ∷ 6 ∷ 2 ∷ []))) → Meets k n l p
+  two-four : natAbs n ≡ 2 → natAbs p ≡ 4 → T (sameValues (valuesAt k (1 ∷ 5 ∷ 6 ∷ 2 ∷ [])) (valuesAt l (0 ∷ 4 ∷ 7 ∷ 3 ∷ []))) → Meets k n l p
+  five-six : natAbs n ≡ 5 → natAbs p ≡ 6 → T (sameValues (valuesAt k (0 ∷ 3 ∷ 2 ∷ 1 ∷ [])) (valuesAt l (4 ∷ 7 ∷ 6 ∷ 5 ∷ []))) → Meets k n l p
 
 -- the values of a face alternate, in the range
 unfoldable pub alternateAt : Cube → ℤ → Bool
@@ -37,12 +44,6 @@ abbrev pub FacesAgree : Type 0
 FacesAgree = (k : Cube) (n : ℤ) (l : Cube) (p : ℤ) → Meets k n l p → T (alternateAt k n) → (faceOf k n ≡ faceOf l p) ↔ (isPositive n ≡ isPositive p)
 
 -- ---- the routine: refusal 4, then 3; faces that do not meet so are apart; of two that do, whether the answers are equal
-
-unfoldable pub sameValues : List Float → List Float → Bool
-sameValues [] [] = true
-sameValues [] (y ∷ ys) = false
-sameValues (x ∷ xs) [] = false
-sameValues (x ∷ xs) (y ∷ ys) = eq x y && sameValues xs ys
 
 -- face f of k meets face g of l, whose corners are cs in the order of f's
 unfoldable pub meetAt : Cube → ℕ → Cube → ℕ → ℕ → ℕ → List ℕ → Bool

@@ -6,6 +6,9 @@ ghost use Rattle.cube.specs.Corners.{digitOf, valueAt};
 ghost use Rattle.face.specs.Face.{rule, faceOf, said, testFaceOf};
 ghost use Rattle.face.specs.Columns.{placeOf, squareOf};
 ghost use Rattle.face.specs.Laws.{FaceLawsAt};
+
+pub mod meeting;
+
 use cube::Cube;
 use cube::Face;
 use cube::Refusal;
@@ -22,14 +25,6 @@ pub struct Square {
     pub b: f32,
     pub c: f32,
     pub d: f32,
-}
-
-// What the comparison of two faces says: whether the answers are equal, or that the faces do not meet
-// with the same alternating values in range.
-pub enum Compared {
-    Equal(bool),
-    Apart,
-    NotCompared(Refusal),
 }
 
 // Corners a, b, c and d of each face: the hex digit at place |face|.

@@ -1,6 +1,6 @@
 -- `cube::all_finite` tells what `allFinite` does.
-use mathlib.Core.Path.{_≡_, refl}
-use mathlib.Core.Bool.{Bool, true, false, _&&_, and-true}
+use mathlib.Core.Path.{_≡_}
+use mathlib.Core.Bool.{true, _&&_, and-true, and-assoc}
 use mathlib.Core.List.{[], _∷_, map, foldr}
 use lib.Ieee.{Float, binary32, add, sub, eq, ofBits}
 use lib.Ieee.Scale.{finite}
@@ -8,10 +8,6 @@ use Rattle.binary32.proofs.Finite.{minus-itself, both-finite, is-nought}
 use Rattle.cube.specs.Corners.{allFinite}
 use Rattle.cube.proofs.all_finite.Statement.{statement}
 use Rattle.cube.proofs.all_finite.Tie as tie
-
-and-assoc : (p q r : Bool) → p && q && r ≡ p && (q && r)
-and-assoc true q r = refl
-and-assoc false q r = refl
 
 told : (a b c d e f g h : Float)
     → eq (add binary32

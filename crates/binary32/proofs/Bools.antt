@@ -1,0 +1,19 @@
+-- Laws of Bool that the tests of several crates need. Assumes nothing.
+use mathlib.Core.Logic.{_⊎_, inl, inr}
+use mathlib.Core.Bool.{Bool, true, false, _&&_, _||_, and-true, and-assoc}
+use lib.Dec.{T}
+
+pub either : (p q : Bool) → T (p || q) → T p ⊎ T q
+either true q t = inl tt
+either false q t = inr t
+
+pub four : (p q r s : Bool) → T (p && q && r && s) → T p × T q × T r × T s
+four true true true true t = (tt, tt, tt, tt)
+four true true true false t = absurd t
+four true true false s t = absurd t
+four true false r s t = absurd t
+four false q r s t = absurd t
+
+-- the same, as a test over a list of four has it
+pub all-four : (p q r s : Bool) → T (p && (q && (r && (s && true)))) → T p × T q × T r × T s
+all-four p q r s t = four p q r s (simp and-assoc (simp and-true at t))

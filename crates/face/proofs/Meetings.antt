@@ -1,0 +1,134 @@
+-- The test of term 3's premises, as the code makes it: the four ways out of `meets`, and what a test that holds says. Assumes nothing.
+use mathlib.Core.Path.{_≡_, refl, sym, ap, _∙_, subst}
+use mathlib.Core.Logic.{inl, inr}
+use mathlib.Core.List.{List, [], _∷_}
+use mathlib.Core.Bool.{Bool, true, false, not, _&&_, _||_, Bool·beq, and-true, and-assoc, or-false}
+use Prim.Native.Nat.{ℕ}
+use borrow.Author.Tests.{ne-eqb, not-true, not-false}
+use lib.Dec.{T, eqb, eqb→eq}
+use lib.IntN.{ℤ, natAbs}
+use lib.ListN.{getD}
+use lib.Ieee.Bits.{is-true}
+use lib.Ieee.Fits.{and-l, and-r}
+use lib.Ieee.{Float, eq}
+use Rattle.binary32.proofs.Bools.{either}
+use Rattle.cube.specs.declared.Cube.{Cube}
+use Rattle.cube.specs.declared.Refusal.the-variants.{NoFace, NotFinite}
+use Rattle.cube.specs.Corners.{cornerOf, allFinite}
+use Rattle.face.specs.declared.Square.{Square}
+use Rattle.face.specs.Columns.{placeOf, squareOf}
+use Rattle.face.specs.Face.{faceCorners, faceOf, isFace, isPositive}
+use Rattle.face.specs.Laws.{alternate}
+use Rattle.face.specs.declared.meeting.Compared.the-variants.{Equal, Apart, NotCompared}
+use Rattle.face.specs.Meeting.{valuesAt, sameValues, Meets, one-three, two-four, five-six, meetAt, meet, alternateAt, joined, equal, apart, refused, comparedOf, AgreeBySign}
+use Rattle.face.proofs.Agreement.{by-signs}
+use Rattle.face.proofs.Places.{face-place, face-size}
+
+module _ (k : Cube) (n : ℕ) (l : Cube) (p : ℕ) where
+  pub by-one : n ≡ 1 → eqb p 3 && eq (k .c0) (l .c3) && eq (k .c4) (l .c7) && eq (k .c5) (l .c6) && eq (k .c1) (l .c2) ≡ meet k n l p
+  unfolding meet cornerOf
+  by-one e = rw e (simp (and-assoc, and-true, or-false))
+
+  pub by-two : n ≡ 2 → eqb p 4 && eq (k .c1) (l .c0) && eq (k .c5) (l .c4) && eq (k .c6) (l .c7) && eq (k .c2) (l .c3) ≡ meet k n l p
+  unfolding meet cornerOf
+  by-two e = rw e (simp (and-assoc, and-true, or-false))
+
+  pub by-five : n ≡ 5 → eqb p 6 && eq (k .c0) (l .c4) && eq (k .c3) (l .c7) && eq (k .c2) (l .c6) && eq (k .c1) (l .c5) ≡ meet k n l p
+  unfolding meet cornerOf
+  by-five e = rw e (simp (and-assoc, and-true))
+
+  pub by-none : (n ≡ 1 → ⊥) → (n ≡ 2 → ⊥) → (n ≡ 5 → ⊥) → false ≡ meet k n l p
+  unfolding meet
+  by-none a b c = rw (ne-eqb n 1 a, ne-eqb n 2 b, ne-eqb n 5 c)
+
+pub premises : (k : Cube) (n : ℤ) (l : Cube) (p : ℤ) (i j : ℕ) (m t : Bool) (s : Square) → i ≡ placeOf n → j ≡ placeOf p → m ≡ meet k i l j → s ≡ squareOf k n
+    → t ≡ alternate (s .a) (s .b) (s .c) (s .d) → m && t ≡ meet k (placeOf n) l (placeOf p) && alternateAt k n
+unfolding alternateAt
+premises k n l p i j m t s ei ej em es et =
+    ap (λ (x : Bool). x && t) (em ∙ (λ o. meet k (ei o) l (ej o)))
+    ∙ ap (λ (x : Bool). meet k (placeOf n) l (placeOf p) && x) (et ∙ ap (λ (x : Square). alternate (x .a) (x .b) (x .c) (x .d)) es)
+
+-- ---- what a test that holds says
+module _ (k : Cube) (n : ℤ) (l : Cube) (p : ℤ) where
+  met-at : (f g : ℕ) (cs : List ℕ) → T (meetAt k (natAbs n) l (natAbs p) f g cs) → (natAbs n ≡ f) × (natAbs p ≡ g) × T (sameValues (valuesAt k (getD faceCorners f [])) (valuesAt l cs))
+  unfolding meetAt
+  met-at f g cs t =
+      let same = sameValues (valuesAt k (getD faceCorners f [])) (valuesAt l cs) in
+      let rest = and-r (eqb (natAbs n) f) (eqb (natAbs p) g && same) t in
+      (eqb→eq (natAbs n) f (and-l (eqb (natAbs n) f) (eqb (natAbs p) g && same) t), eqb→eq (natAbs p) g (and-l (eqb (natAbs p) g) same rest), and-r (eqb (natAbs p) g) same rest)
+
+  met : T (meet k (natAbs n) l (natAbs p)) → Meets k n l p
+  unfolding meet faceCorners
+  met t =
+      elim (either (meetAt k (natAbs n) l (natAbs p) 1 3 (3 ∷ 7 ∷ 6 ∷ 2 ∷ [])) (meetAt k (natAbs n) l (natAbs p) 2 4 (0 ∷ 4 ∷ 7 ∷ 3 ∷ []) || meetAt k (natAbs n) l (natAbs p) 5 6 (4 ∷ 7 ∷ 6 ∷ 5 ∷ [])) t) [
+        | inl u ↦ let h = met-at 1 3 (3 ∷ 7 ∷ 6 ∷ 2 ∷ []) u in one-three (h .0) (h .1) (h .2)
+        | inr u ↦
+            elim (either (meetAt k (natAbs n) l (natAbs p) 2 4 (0 ∷ 4 ∷ 7 ∷ 3 ∷ [])) (meetAt k (natAbs n) l (natAbs p) 5 6 (4 ∷ 7 ∷ 6 ∷ 5 ∷ [])) u) [
+              | inl v ↦ let h = met-at 2 4 (0 ∷ 4 ∷ 7 ∷ 3 ∷ []) v in two-four (h .0) (h .1) (h .2)
+              | inr v ↦ let h = met-at 5 6 (4 ∷ 7 ∷ 6 ∷ 5 ∷ []) v in five-six (h .0) (h .1) (h .2)
+            ]
+      ]
+
+  joined-signs : T (joined k n l p) → Bool·beq (faceOf k n) (faceOf l p) ≡ Bool·beq (isPositive n) (isPositive p)
+  unfolding joined
+  joined-signs t =
+      by-signs k n l p (met (and-l (meet k (natAbs n) l (natAbs p)) (alternateAt k n) t)) (and-r (meet k (natAbs n) l (natAbs p)) (alternateAt k n) t)
+
+beq-comm : (x y : Bool) → Bool·beq x y ≡ Bool·beq y x
+beq-comm true true = refl
+beq-comm true false = refl
+beq-comm false true = refl
+beq-comm false false = refl
+
+-- whichever cube has the first face
+agree : (k : Cube) (n : ℤ) (l : Cube) (p : ℤ) → T (joined k n l p || joined l p k n) → Bool·beq (faceOf k n) (faceOf l p) ≡ Bool·beq (isPositive n) (isPositive p)
+agree k n l p t =
+    elim (either (joined k n l p) (joined l p k n) t) [
+      | inl u ↦ joined-signs k n l p u
+      | inr u ↦ beq-comm (faceOf k n) (faceOf l p) ∙ joined-signs l p k n u ∙ beq-comm (isPositive p) (isPositive n)
+    ]
+
+-- ---- the four ways out of `compare_faces`
+same-of : (b c : Bool) → Equal c ≡ Equal b → b ≡ c
+same-of b c e = cc
+
+not-or : (x y : Bool) → not x && not y ≡ not (x || y)
+not-or true y = refl
+not-or false y = refl
+
+module _ (k : Cube) (n : ℤ) (l : Cube) (p : ℤ) (i j : ℕ) (ei : i ≡ placeOf n) (ej : j ≡ placeOf p) where
+  faces : isFace n && isFace p ≡ not (eqb i 0 || eqb j 0)
+  faces = (λ o. ((face-place n ∙ ap (λ (z : ℕ). not (eqb z 0)) (sym ei)) o) && ((face-place p ∙ ap (λ (z : ℕ). not (eqb z 0)) (sym ej)) o)) ∙ not-or (eqb i 0) (eqb j 0)
+
+  pub no-face : eqb i 0 || eqb j 0 ≡ true → (refused 4 ≡ comparedOf k n l p) × AgreeBySign n p (NotCompared NoFace)
+  unfolding comparedOf
+  no-face h = (rw (faces, h), λ b e. cc)
+
+  module _ (h : eqb i 0 || eqb j 0 ≡ false) (x y : Bool) (ex : x ≡ allFinite k) (ey : y ≡ allFinite l) where
+    pub not-finite : not (x && y) ≡ true → (refused 3 ≡ comparedOf k n l p) × AgreeBySign n p (NotCompared NotFinite)
+    unfolding comparedOf
+    not-finite g = (rw (faces, h, ← ex, ← ey, not-true (x && y) g), λ b e. cc)
+
+    module _ (g : not (x && y) ≡ false) (u v : Bool) (eu : u ≡ meet k (placeOf n) l (placeOf p) && alternateAt k n) (ev : v ≡ meet l (placeOf p) k (placeOf n) && alternateAt l p) where
+      both : isFace n && isFace p ≡ true
+      both = faces ∙ ap not h
+
+      finite : allFinite k && allFinite l ≡ true
+      finite = rw (← ex, ← ey) (not-false (x && y) g)
+
+      as-joined : u || v ≡ joined k n l p || joined l p k n
+      unfolding joined
+      as-joined =
+          let an = face-size n (is-true (isFace n) (and-l (isFace n) (isFace p) (subst T (sym both) tt))) in
+          let ap' = face-size p (is-true (isFace p) (and-r (isFace n) (isFace p) (subst T (sym both) tt))) in
+          rw (eu, ev, an, ap')
+
+      pub apart-told : u || v ≡ false → (apart ≡ comparedOf k n l p) × AgreeBySign n p Apart
+      unfolding comparedOf
+      apart-told w = (rw (both, finite, sym as-joined ∙ w), λ b e. cc)
+
+      pub equal-told : u || v ≡ true → (r s : Bool) → r ≡ faceOf k n → s ≡ faceOf l p → (equal (Bool·beq r s) ≡ comparedOf k n l p) × AgreeBySign n p (Equal (Bool·beq r s))
+      unfolding comparedOf
+      equal-told w r s er es =
+          let t : T (joined k n l p || joined l p k n) = subst T (sym (sym as-joined ∙ w)) tt in
+          (rw (both, finite, sym as-joined ∙ w, er, es), λ b e. same-of b (Bool·beq r s) e ∙ (λ o. Bool·beq (er o) (es o)) ∙ agree k n l p t)
