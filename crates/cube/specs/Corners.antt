@@ -20,10 +20,8 @@ unfoldable pub valueAt : List Float → ℕ → Float
 valueAt values k = cond (ltb k 8) (getD values k nan) nan
 
 unfoldable pub cornerOf : Cube → ℕ → Float
-unfolding corners valueAt
 cornerOf q k = valueAt (corners q) k
 
 -- what refusal 3 asks: no corner is NaN or infinite
 unfoldable pub allFinite : Cube → Bool
-unfolding corners
 allFinite q = foldr _&&_ true (map finite (corners q))

@@ -13,7 +13,7 @@ use Rattle.binary32.proofs.Bools.{all-four}
 use Rattle.binary32.proofs.Same.{Same, eq→same}
 use Rattle.cube.specs.declared.Cube.{Cube}
 use Rattle.cube.specs.Corners.{cornerOf}
-use Rattle.face.specs.Face.{faceCorners, faceCorner, rule, faceOf, isFace, isPositive}
+use Rattle.face.specs.Face.{faceCorners, faceCorner, rule, faceBy, faceOf, isFace, isPositive}
 use Rattle.face.specs.Laws.{alternate}
 use Rattle.face.specs.Meeting.{sameValues, Meets, one-three, two-four, five-six, alternateAt, FacesAgree}
 use Rattle.face.proofs.Decision.{Square, square, sizes, turned, rule-same, kept, decided, kept-turned}
@@ -49,7 +49,7 @@ entry f j = getD (getD faceCorners f []) j 0
 
 module _ (k : Cube) (n : ℤ) (f : ℕ) (e : natAbs n ≡ f) where
   face-at : faceOf k n ≡ rule f32 n (cornerOf k (entry f 0)) (cornerOf k (entry f 1)) (cornerOf k (entry f 2)) (cornerOf k (entry f 3))
-  unfolding faceOf faceCorner
+  unfolding faceOf faceBy faceCorner
   face-at = rw e
 
   alternate-of : T (alternateAt k n) → T (alternate (cornerOf k (entry f 0)) (cornerOf k (entry f 1)) (cornerOf k (entry f 2)) (cornerOf k (entry f 3)))

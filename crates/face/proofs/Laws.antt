@@ -12,7 +12,7 @@ use Rattle.cube.specs.declared.Cube.{Cube}
 use Rattle.cube.specs.Corners.{cornerOf}
 use Rattle.face.specs.declared.Square.{Square}
 use Rattle.face.specs.Columns.{squareOf}
-use Rattle.face.specs.Face.{faceCorner, rule, faceOf, isFace, isPositive}
+use Rattle.face.specs.Face.{faceCorner, rule, faceBy, faceOf, isFace, isPositive}
 use Rattle.face.specs.Laws.{alternate, FaceLaws, FaceLawsAt}
 use Rattle.face.proofs.Decision.{val, kept, square, turned, decided, kept-turned}
 
@@ -58,7 +58,7 @@ opposed n a b c d f t =
     decided n f a b c d s ∙ beq-not (isPositive n) (kept a b c d) ∙ ap (λ (p : Bool). not (Bool·beq p (kept a b c d))) (sym (o .1)) ∙ ap not (sym (decided (negℤ n) (o .0) a b c d s))
 
 pub face-laws : (q : Cube) (n : ℤ) (r : Bool) → r ≡ faceOf q n → FaceLawsAt q n r
-unfolding faceOf
+unfolding faceOf faceBy
 face-laws q n r e = record {
   tie = λ t. e ∙ exact-tie n _ _ _ _ t;
   not-a-number = λ t. e ∙ at-nan n _ _ _ _ t;
@@ -71,4 +71,4 @@ pub answered : (q : Cube) (n : ℤ) (s : Square) (r : Bool) → s ≡ squareOf q
 answered q n s r es er = let e = er ∙ by-square es in (e, face-laws q n r e)
   where
     by-square : s ≡ squareOf q n → rule f32 n (s .a) (s .b) (s .c) (s .d) ≡ faceOf q n
-    by-square es = unfold faceOf in ap (λ (x : Square). rule f32 n (x .a) (x .b) (x .c) (x .d)) es
+    by-square es = unfold faceOf faceBy in ap (λ (x : Square). rule f32 n (x .a) (x .b) (x .c) (x .d)) es

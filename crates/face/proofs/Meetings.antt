@@ -14,7 +14,7 @@ use lib.Ieee.{Float, eq}
 use Rattle.binary32.proofs.Bools.{either}
 use Rattle.cube.specs.declared.Cube.{Cube}
 use Rattle.cube.specs.declared.Refusal.the-variants.{NoFace, NotFinite}
-use Rattle.cube.specs.Corners.{cornerOf, allFinite}
+use Rattle.cube.specs.Corners.{corners, valueAt, cornerOf, allFinite}
 use Rattle.face.specs.declared.Square.{Square}
 use Rattle.face.specs.Columns.{placeOf, squareOf}
 use Rattle.face.specs.Face.{faceCorners, faceOf, isFace, isPositive}
@@ -26,19 +26,19 @@ use Rattle.face.proofs.Places.{face-place, face-size}
 
 module _ (k : Cube) (n : ℕ) (l : Cube) (p : ℕ) where
   pub by-one : n ≡ 1 → eqb p 3 && eq (k .c0) (l .c3) && eq (k .c4) (l .c7) && eq (k .c5) (l .c6) && eq (k .c1) (l .c2) ≡ meet k n l p
-  unfolding meet cornerOf
+  unfolding meet meetAt sameValues faceCorners corners valueAt cornerOf
   by-one e = rw e (simp (and-assoc, and-true, or-false))
 
   pub by-two : n ≡ 2 → eqb p 4 && eq (k .c1) (l .c0) && eq (k .c5) (l .c4) && eq (k .c6) (l .c7) && eq (k .c2) (l .c3) ≡ meet k n l p
-  unfolding meet cornerOf
+  unfolding meet meetAt sameValues faceCorners corners valueAt cornerOf
   by-two e = rw e (simp (and-assoc, and-true, or-false))
 
   pub by-five : n ≡ 5 → eqb p 6 && eq (k .c0) (l .c4) && eq (k .c3) (l .c7) && eq (k .c2) (l .c6) && eq (k .c1) (l .c5) ≡ meet k n l p
-  unfolding meet cornerOf
+  unfolding meet meetAt sameValues faceCorners corners valueAt cornerOf
   by-five e = rw e (simp (and-assoc, and-true))
 
   pub by-none : (n ≡ 1 → ⊥) → (n ≡ 2 → ⊥) → (n ≡ 5 → ⊥) → false ≡ meet k n l p
-  unfolding meet
+  unfolding meet meetAt
   by-none a b c = rw (ne-eqb n 1 a, ne-eqb n 2 b, ne-eqb n 5 c)
 
 pub premises : (k : Cube) (n : ℤ) (l : Cube) (p : ℤ) (i j : ℕ) (m t : Bool) (s : Square) → i ≡ placeOf n → j ≡ placeOf p → m ≡ meet k i l j → s ≡ squareOf k n

@@ -27,7 +27,6 @@ faceCorners =
 
 -- corner a (k = 0), b, c or d of a face
 unfoldable pub faceCorner : ℤ → ℕ → ℕ
-unfolding faceCorners
 faceCorner n k = getD (getD faceCorners (natAbs n) []) k 0
 
 abbrev pub isPositive : ℤ → Bool
@@ -44,11 +43,9 @@ module _ (K : Numbers) where
 
   -- the answer for a cube's corner values and a signed face number
   unfoldable pub faceBy : (ℕ → N) → ℤ → Bool
-  unfolding rule
   faceBy corner n = rule n (corner (faceCorner n 0)) (corner (faceCorner n 1)) (corner (faceCorner n 2)) (corner (faceCorner n 3))
 
 unfoldable pub faceOf : Cube → ℤ → Bool
-unfolding faceBy
 faceOf q n = faceBy f32 (cornerOf q) n
 
 -- ---- the public routine: refusal 4, then 3
@@ -66,5 +63,4 @@ said (Answer b) = answer b
 said (Refused why) = refused (refusalNumber why)
 
 unfoldable pub testFaceOf : Cube → ℤ → Said
-unfolding faceOf allFinite
 testFaceOf q n = cond (isFace n) (cond (allFinite q) (answer (faceOf q n)) (refused 3)) (refused 4)

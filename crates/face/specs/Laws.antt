@@ -15,7 +15,6 @@ inRange x = le (ofBits binary32 0x358637bd) x && le x (fin false 1 (pos 63))
 
 -- term 3's premise: the signs alternate, a and c have one sign, b and d the other, and each magnitude is in the range
 unfoldable pub alternate : Float → Float → Float → Float → Bool
-unfolding inRange
 alternate a b c d = (inRange a && inRange (neg b) && inRange c && inRange (neg d)) || (inRange (neg a) && inRange b && inRange (neg c) && inRange d)
 
 -- r is the answer for the face number n and the values a, b, c, d

@@ -37,7 +37,6 @@ pub data Meets (k : Cube) (n : ℤ) (l : Cube) (p : ℤ) : Type 0 where
 
 -- the values of a face alternate, in the range
 unfoldable pub alternateAt : Cube → ℤ → Bool
-unfolding alternate
 alternateAt k n = alternate (cornerOf k (faceCorner n 0)) (cornerOf k (faceCorner n 1)) (cornerOf k (faceCorner n 2)) (cornerOf k (faceCorner n 3))
 
 abbrev pub FacesAgree : Type 0
@@ -47,16 +46,13 @@ FacesAgree = (k : Cube) (n : ℤ) (l : Cube) (p : ℤ) → Meets k n l p → T (
 
 -- face f of k meets face g of l, whose corners are cs in the order of f's
 unfoldable pub meetAt : Cube → ℕ → Cube → ℕ → ℕ → ℕ → List ℕ → Bool
-unfolding sameValues faceCorners
 meetAt k n l p f g cs = eqb n f && (eqb p g && sameValues (valuesAt k (getD faceCorners f [])) (valuesAt l cs))
 
 unfoldable pub meet : Cube → ℕ → Cube → ℕ → Bool
-unfolding meetAt
 meet k n l p =
     meetAt k n l p 1 3 (3 ∷ 7 ∷ 6 ∷ 2 ∷ []) || (meetAt k n l p 2 4 (0 ∷ 4 ∷ 7 ∷ 3 ∷ []) || meetAt k n l p 5 6 (4 ∷ 7 ∷ 6 ∷ 5 ∷ []))
 
 unfoldable pub joined : Cube → ℤ → Cube → ℤ → Bool
-unfolding meet alternateAt
 joined k n l p = meet k (natAbs n) l (natAbs p) && alternateAt k n
 
 pub data Said : Type 0 where
@@ -71,7 +67,6 @@ said Apart = apart
 said (NotCompared why) = refused (refusalNumber why)
 
 unfoldable pub comparedOf : Cube → ℤ → Cube → ℤ → Said
-unfolding joined allFinite faceOf
 comparedOf k n l p =
     cond (isFace n && isFace p)
     (cond (allFinite k && allFinite l)

@@ -5,7 +5,7 @@ use mathlib.Core.List.{[], _∷_, map, foldr}
 use lib.Ieee.{Float, binary32, add, sub, eq, ofBits}
 use lib.Ieee.Scale.{finite}
 use Rattle.binary32.proofs.Finite.{minus-itself, both-finite, is-nought}
-use Rattle.cube.specs.Corners.{allFinite}
+use Rattle.cube.specs.Corners.{corners, allFinite}
 use Rattle.cube.proofs.all_finite.Statement.{statement}
 use Rattle.cube.proofs.all_finite.Tie as tie
 
@@ -17,7 +17,7 @@ told : (a b c d e f g h : Float)
 told a b c d e f g h = simp (minus-itself, both-finite, and-assoc) (rw (is-nought, and-true))
 
 returns : tie.Need-returns
-unfolding allFinite
+unfolding corners allFinite
 returns c = told _ _ _ _ _ _ _ _
 
 pub all-finite-spec : {M : Type 1} → statement M
