@@ -21,13 +21,7 @@ use Rattle.binary32.proofs.Bools.{either, four}
 use Rattle.binary32.proofs.Magnitudes.{sgn, round-told, magnitude-mul, sgn-mul, mul-comm-float, sign-test, le-mul, not-less, above-real, mul-neg, Swapped, sub-swapped}
 use Rattle.binary32.proofs.Same.{Same, same-refl, mul-same}
 use Rattle.face.specs.Face.{rule, isFace, isPositive}
-use Rattle.face.specs.Laws.{inRange, alternate}
-
-abbrev pub least : Float
-least = ofBits binary32 0x358637bd
-
-abbrev most : Float
-most = fin false 1 (pos 63)
+use Rattle.face.specs.Laws.{least, most, inRange, alternate}
 
 abbrev one : Float
 one = fin false 1 (pos 0)

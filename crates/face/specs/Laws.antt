@@ -9,9 +9,16 @@ use Rattle.cube.specs.declared.Cube.{Cube}
 use Rattle.cube.specs.Corners.{cornerOf}
 use Rattle.face.specs.Face.{faceCorner, isPositive, isFace, rule}
 
--- from 1e-6 as an f32 to 2 ^ 63
+-- 1e-6 as an f32
+abbrev pub least : Float
+least = ofBits binary32 0x358637bd
+
+-- 2 ^ 63
+abbrev pub most : Float
+most = fin false 1 (pos 63)
+
 unfoldable pub inRange : Float → Bool
-inRange x = le (ofBits binary32 0x358637bd) x && le x (fin false 1 (pos 63))
+inRange x = le least x && le x most
 
 -- term 3's premise: the signs alternate, a and c have one sign, b and d the other, and each magnitude is in the range
 unfoldable pub alternate : Float → Float → Float → Float → Bool
