@@ -1,0 +1,10 @@
+pub mod Squares
+pub mod WholeRoot
+pub mod DigitsLeft
+pub mod Rounding
+pub mod Scaling
+pub mod Patterns
+pub mod NearestValue
+pub mod RootFits
+pub mod NotBelowZero
+pub mod Controls
