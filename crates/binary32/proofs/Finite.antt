@@ -1,13 +1,13 @@
 -- x - x is +0 where x is finite and a NaN elsewhere, and sums of such differences tell whether all are finite. Assumes nothing.
-use mathlib.Core.Path.{_≡_, refl, sym, ap, _∙_}
+use mathlib.Core.Path.{_≡_, refl, sym, _∙_}
 use mathlib.Core.Bool.{Bool, true, false, not, _&&_, cond}
-use Prim.Native.Nat.{ℕ, _+_, _-_, _*_, _<_}
+use Prim.Native.Nat.{ℕ, _*_, _<_}
 use native.Mathlib.Nat.{zero-mul, mul-pos, zero-lt-suc, sub-self}
 use native.Mathlib.Omega.{arith}
 use borrow.Author.Tests.{le-ltb}
-use lib.Dec.{T, ltb}
-use lib.IntN.{ℤ, pos}
-use lib.Ieee.{Float, nan, inf, fin, binary32, up, down, round, sum, neg, add, sub, eq, ofBits}
+use lib.Dec.{ltb}
+use lib.IntN.{pos}
+use lib.Ieee.{Float, nan, inf, fin, binary32, up, down, round, sum, add, sub, eq, ofBits}
 use lib.Ieee.Fits.{down-pos}
 use lib.Ieee.Scale.{finite, round-same}
 

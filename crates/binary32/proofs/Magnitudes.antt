@@ -2,15 +2,15 @@
 -- product's of the signs, and x - y and y - x differ in sign alone. Assumes nothing.
 use mathlib.Core.Path.{_≡_, refl, sym, ap, _∙_, subst}
 use mathlib.Core.Logic.{_⊎_, inl, inr}
-use mathlib.Core.Bool.{Bool, true, false, not, _&&_, _||_, cond, Bool·beq, true≢false}
-use Prim.Native.Nat.{ℕ, zero, suc, _+_, _-_, _*_, _/_, _%_, _^_, _<_, _≤_, compare}
+use mathlib.Core.Bool.{Bool, true, false, not, _&&_, _||_, cond, true≢false}
+use Prim.Native.Nat.{ℕ, zero, suc, _+_, _-_, _*_, _^_, _<_, _≤_}
 use native.Mathlib.Nat.{zero-mul, mul-one, mul-comm, mul-pos, eq-or-lt-of-le, le-refl}
 use native.Mathlib.Omega.{arith}
 use borrow.Author.Tests.{lt-ltb, le-ltb, eq-eqb, ne-eqb}
 use lib.Dec.{T, ltb, eqb, ltb→lt, nltb→le}
 use lib.IntN.{ℤ, pos}
-use lib.Ieee.{Float, nan, inf, fin, Format, binary32, prec, emax, low, up, down, unlike, size, nearest, odd, units, round, neg, sum, add, sub, mul, lt, eq, le, isNan}
-use lib.Ieee.Fits.{core, round-is, up-pos, down-pos}
+use lib.Ieee.{Float, nan, inf, fin, Format, binary32, prec, emax, low, up, down, unlike, odd, units, round, neg, sub, mul, lt, le, isNan}
+use lib.Ieee.Fits.{round-is, up-pos, down-pos}
 use lib.Ieee.Positive.{positive, above, above-of-le, mul-mono}
 use Rattle.binary32.proofs.Finite.{round-nought}
 use Rattle.binary32.specs.Numbers.{magnitude}

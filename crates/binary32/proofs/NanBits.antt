@@ -1,8 +1,8 @@
 -- Which patterns are a NaN's: those whose exponent and digits, taken together, are above an infinity's. Assumes nothing.
 use mathlib.Core.Path.{_≡_, refl, sym, _∙_}
-use mathlib.Core.Bool.{Bool, true, false, not}
+use mathlib.Core.Bool.{true, not}
 use Prim.Native.Nat.{ℕ, _%_, _≤_, _<_}
-use lib.Dec.{T, ltb}
+use lib.Dec.{T}
 use borrow.Author.Tests.{lt-ltb, le-ltb}
 use lib.Ieee.{Float, nan, inf, fin, binary32, ofBits, isNan, nanBits}
 use lib.Ieee.Bits.{nanBits-is, nanBits-above}

@@ -1,11 +1,10 @@
 -- Finite values that are equal as numbers, sign included, multiply alike, however they are written. Assumes nothing.
-use mathlib.Core.Path.{_≡_, refl, sym, ap, _∙_}
-use mathlib.Core.Bool.{Bool, true, false, _&&_, _||_, Bool·beq}
+use mathlib.Core.Path.{_≡_, refl, _∙_}
+use mathlib.Core.Bool.{Bool, true, false, _||_, Bool·beq}
 use Prim.Native.Nat.{ℕ, _*_, _<_}
 use native.Mathlib.Nat.{mul-pos, mul-mul-mul-comm}
 use native.Mathlib.Omega.{arith}
-use lib.Dec.{T, ltb, eqb, ltb→lt, eqb→eq}
-use lib.IntN.{ℤ}
+use lib.Dec.{T, eqb, ltb→lt, eqb→eq}
 use lib.Ieee.{Float, nan, inf, fin, Format, up, down, unlike, round, mul, eq}
 use lib.Ieee.Fits.{and-l, and-r, up-pos, down-pos}
 use lib.Ieee.Positive.{positive}

@@ -1,6 +1,5 @@
 -- The kinds of number that the rules of document 01 are given over: what a rule does with a corner's value, and binary32 as the
 -- first kind, each operation rounded once (term 2). Definitions only.
-use Prim.Native.Nat.{ℕ}
 use mathlib.Core.Bool.{Bool, false}
 use lib.IntN.{ℤ, pos, negsuc}
 use lib.Ieee.{Float, nan, inf, fin, binary32, sub, mul, lt, le, ofInt}

@@ -1,12 +1,12 @@
 -- A signed number of 8 bits taken apart: k from the number k, and k from -1 - k. `toZ w8 (ofZ w8 z)` is how code reads z. Assumes nothing.
-use mathlib.Core.Path.{_≡_, refl, sym, ap, _∙_, subst}
+use mathlib.Core.Path.{_≡_, sym, ap, _∙_, subst}
 use mathlib.Core.Bool.{true, false, true≢false, cond}
-use Prim.Native.Nat.{ℕ, suc, _-_, _<_, _^_}
+use Prim.Native.Nat.{ℕ, suc, _-_}
 use native.Mathlib.Omega.{arith}
 use borrow.Author.Tests.{le-ltb}
-use lib.IntN.{ℤ, pos, negsuc, _-ℤ_, natAbs, subℕ}
+use lib.IntN.{ℤ, pos, negsuc, _-ℤ_, natAbs}
 use lib.Dec.{T, ltb}
-use lib.Signed.{ltZ, nonNeg, mag}
+use lib.Signed.{ltZ, nonNeg}
 use mir.Syntax.{w8}
 use mir.Val.{Fits, SFits, toZ, ofZ}
 use mir.ValLaws.{toZ-ofZ, toZ-pos}

@@ -1,21 +1,22 @@
 -- Term 3, `FacesAgree`: whatever stands off the face where two cubes meet, their answers are equal exactly when the face numbers' signs are. Assumes nothing.
-use mathlib.Core.Path.{_≡_, refl, sym, ap, _∙_, subst}
-use mathlib.Core.Logic.{_↔_}
-use mathlib.Core.Bool.{Bool, true, false, _&&_, Bool·beq, true≢false}
+use mathlib.Core.Path.{_≡_, refl, sym, ap, _∙_}
+use mathlib.Core.Logic.{_⊎_, inl, inr}
+use mathlib.Core.Bool.{Bool, true, false, _&&_, _||_, Bool·beq, true≢false}
 use mathlib.Core.List.{List, [], _∷_}
 use Prim.Native.Nat.{ℕ}
-use lib.Dec.{T, leb}
+use lib.Dec.{T, leb, eqb, eqb→eq}
 use lib.IntN.{ℤ, natAbs}
 use lib.ListN.{getD}
 use lib.Ieee.{Float, eq}
+use lib.Ieee.Fits.{and-l, and-r}
 use Rattle.binary32.specs.Numbers.{f32}
-use Rattle.binary32.proofs.Bools.{all-four}
+use Rattle.binary32.proofs.Bools.{either, all-four}
 use Rattle.binary32.proofs.Same.{Same, eq→same}
 use Rattle.cube.specs.declared.Cube.{Cube}
 use Rattle.cube.specs.Corners.{cornerOf}
 use Rattle.face.specs.Face.{faceCorners, faceCorner, rule, faceBy, faceOf, isFace, isPositive}
 use Rattle.face.specs.Laws.{alternate}
-use Rattle.face.specs.Meeting.{sameValues, Meets, one-three, two-four, five-six, alternateAt, FacesAgree}
+use Rattle.face.specs.Meeting.{valuesAt, sameValues, meetAt, others-of-1, others-of-2, others-of-5, meet, alternateAt, joined, FacesAgree}
 use Rattle.face.proofs.Decision.{Square, square, sizes, turned, rule-same, kept, decided, kept-turned}
 
 beq-refl : (p : Bool) → Bool·beq p p ≡ true
@@ -73,11 +74,11 @@ module _ (k : Cube) (n : ℤ) (l : Cube) (p : ℤ) (f g : ℕ) (en : natAbs n �
   abbrev d : Float
   d = cornerOf k (entry f 3)
 
-  -- the other cube reads w, x, y, z where this one's answer would be that for w', x', y', z'
-  met : (w x y z : Float) → Same w (cornerOf l (entry g 0)) → Same x (cornerOf l (entry g 1)) → Same y (cornerOf l (entry g 2)) → Same z (cornerOf l (entry g 3))
+  -- the other cube reads values that are the same as w, x, y, z
+  reads : (w x y z : Float) → Same w (cornerOf l (entry g 0)) → Same x (cornerOf l (entry g 1)) → Same y (cornerOf l (entry g 2)) → Same z (cornerOf l (entry g 3))
       → Bool·beq (rule f32 n a b c d) (rule f32 p w x y z) ≡ Bool·beq (isPositive n) (isPositive p)
       → Bool·beq (faceOf k n) (faceOf l p) ≡ Bool·beq (isPositive n) (isPositive p)
-  met w x y z sw sx sy sz h =
+  reads w x y z sw sx sy sz h =
       (λ i. Bool·beq (face-at k n f en i) ((face-at l p g ep ∙ sym (rule-same p (face-number l p g ep tg) w x y z _ _ _ _ sw sx sy sz)) i)) ∙ h
 
   -- it reads them as d, c, b, a
@@ -86,7 +87,7 @@ module _ (k : Cube) (n : ℤ) (l : Cube) (p : ℤ) (f g : ℕ) (en : natAbs n �
   across ed ec eb ea =
       let u = alternate-of k n f en t in
       let z = sizes a b c d u in
-      met d c b a (eq→same d _ (z .3) ed) (eq→same c _ (z .2) ec) (eq→same b _ (z .1) eb) (eq→same a _ (z .0) ea)
+      reads d c b a (eq→same d _ (z .3) ed) (eq→same c _ (z .2) ec) (eq→same b _ (z .1) eb) (eq→same a _ (z .0) ea)
       (other-side n p (face-number k n f en tf) (face-number l p g ep tg) a b c d (square a b c d u))
 
   -- it reads them as a, b, c, d
@@ -95,18 +96,53 @@ module _ (k : Cube) (n : ℤ) (l : Cube) (p : ℤ) (f g : ℕ) (en : natAbs n �
   along ea eb ec ed =
       let u = alternate-of k n f en t in
       let z = sizes a b c d u in
-      met a b c d (eq→same a _ (z .0) ea) (eq→same b _ (z .1) eb) (eq→same c _ (z .2) ec) (eq→same d _ (z .3) ed)
+      reads a b c d (eq→same a _ (z .0) ea) (eq→same b _ (z .1) eb) (eq→same c _ (z .2) ec) (eq→same d _ (z .3) ed)
       (same-side n p (face-number k n f en tf) (face-number l p g ep tg) a b c d (square a b c d u))
 
 each : (w x y z w' x' y' z' : Float) → T (sameValues (w ∷ x ∷ y ∷ z ∷ []) (w' ∷ x' ∷ y' ∷ z' ∷ [])) → T (eq w w') × T (eq x x') × T (eq y y') × T (eq z z')
 unfolding sameValues
 each w x y z w' x' y' z' t = all-four (eq w w') (eq x x') (eq y y') (eq z z') t
 
-pub by-signs : (k : Cube) (n : ℤ) (l : Cube) (p : ℤ) → Meets k n l p → T (alternateAt k n) → Bool·beq (faceOf k n) (faceOf l p) ≡ Bool·beq (isPositive n) (isPositive p)
-unfolding faceCorners
-by-signs k n l p (one-three en ep e) t = let h = each _ _ _ _ _ _ _ _ e in across k n l p 1 3 en ep tt tt t (h .3) (h .2) (h .1) (h .0)
-by-signs k n l p (two-four en ep e) t = let h = each _ _ _ _ _ _ _ _ e in across k n l p 2 4 en ep tt tt t (h .3) (h .2) (h .1) (h .0)
-by-signs k n l p (five-six en ep e) t = let h = each _ _ _ _ _ _ _ _ e in along k n l p 5 6 en ep tt tt t (h .0) (h .1) (h .2) (h .3)
+module _ (k : Cube) (n : ℤ) (l : Cube) (p : ℤ) where
+  abbrev met : ℕ → ℕ → List ℕ → Bool
+  met f g cs = meetAt k (natAbs n) l (natAbs p) f g cs
+
+  met-at : (f g : ℕ) (cs : List ℕ) → T (met f g cs) → (natAbs n ≡ f) × (natAbs p ≡ g) × T (sameValues (valuesAt k (getD faceCorners f [])) (valuesAt l cs))
+  unfolding meetAt
+  met-at f g cs t =
+      let same = sameValues (valuesAt k (getD faceCorners f [])) (valuesAt l cs) in
+      let rest = and-r (eqb (natAbs n) f) (eqb (natAbs p) g && same) t in
+      (eqb→eq (natAbs n) f (and-l (eqb (natAbs n) f) (eqb (natAbs p) g && same) t), eqb→eq (natAbs p) g (and-l (eqb (natAbs p) g) same rest), and-r (eqb (natAbs p) g) same rest)
+
+  three : T (meet k (natAbs n) l (natAbs p)) → T (met 1 3 others-of-1) ⊎ (T (met 2 4 others-of-2) ⊎ T (met 5 6 others-of-5))
+  unfolding meet
+  three t =
+      elim (either (met 1 3 others-of-1) (met 2 4 others-of-2 || met 5 6 others-of-5) t) [
+        | inl u ↦ inl u
+        | inr u ↦ inr (either (met 2 4 others-of-2) (met 5 6 others-of-5) u)
+      ]
+
+  pub by-signs : T (joined k n l p) → Bool·beq (faceOf k n) (faceOf l p) ≡ Bool·beq (isPositive n) (isPositive p)
+  unfolding joined faceCorners
+  by-signs j =
+      let t = and-r (meet k (natAbs n) l (natAbs p)) (alternateAt k n) j in
+      elim (three (and-l (meet k (natAbs n) l (natAbs p)) (alternateAt k n) j)) [
+        | inl u ↦
+            let m = met-at 1 3 others-of-1 u in
+            let h = each _ _ _ _ _ _ _ _ (m .2) in
+            across k n l p 1 3 (m .0) (m .1) tt tt t (h .3) (h .2) (h .1) (h .0)
+        | inr v ↦
+            elim v [
+              | inl u ↦
+                  let m = met-at 2 4 others-of-2 u in
+                  let h = each _ _ _ _ _ _ _ _ (m .2) in
+                  across k n l p 2 4 (m .0) (m .1) tt tt t (h .3) (h .2) (h .1) (h .0)
+              | inr u ↦
+                  let m = met-at 5 6 others-of-5 u in
+                  let h = each _ _ _ _ _ _ _ _ (m .2) in
+                  along k n l p 5 6 (m .0) (m .1) tt tt t (h .0) (h .1) (h .2) (h .3)
+            ]
+      ]
 
 -- ---- as it is stated
 like : (p q r s : Bool) → Bool·beq p q ≡ Bool·beq r s → (p ≡ q) → (r ≡ s)
@@ -116,6 +152,6 @@ like p q false true h e = absurd (true≢false (sym (beq-of p q e) ∙ h))
 like p q false false h e = refl
 
 pub faces-agree : FacesAgree
-faces-agree k n l p m t =
-    let h = by-signs k n l p m t in
+faces-agree k n l p t =
+    let h = by-signs k n l p t in
     (like (faceOf k n) (faceOf l p) (isPositive n) (isPositive p) h, like (isPositive n) (isPositive p) (faceOf k n) (faceOf l p) (sym h))

@@ -6,7 +6,7 @@ use mathlib.Core.Bool.{Bool, true, false}
 use mathlib.Core.List.{List, [], _∷_, map}
 use Prim.Native.Nat.{ℕ}
 use lib.IntN.{ℤ, pos, negsuc}
-use lib.Ieee.{Float, binary32, ofBits, neg, add, sub, mul, lt, eq, le, ofInt}
+use lib.Ieee.{binary32, ofBits, neg, sub, mul, lt, eq, le, ofInt}
 use Rattle.cube.specs.declared.Cube.{Cube}
 use Rattle.cube.specs.Corners.{corners, valueAt, cornerOf, allFinite}
 use Rattle.face.specs.Face.{faceCorners, faceCorner, rule, faceBy, faceOf, Said, answer, refused, testFaceOf}

@@ -1,15 +1,14 @@
 -- Four values that alternate in range decide once for all face numbers: the answer is the sign of the face number, kept or turned by one Bool of
 -- the values, and the values read from the other side, d, c, b, a, have the same Bool. Assumes nothing.
 use mathlib.Core.Path.{_≡_, refl, sym, ap, _∙_, subst}
-use mathlib.Core.Logic.{_⊎_, inl, inr}
-use mathlib.Core.Bool.{Bool, true, false, not, _&&_, _||_, cond, Bool·beq, true≢false}
-use Prim.Native.Nat.{ℕ, suc, _≤_, _<_}
+use mathlib.Core.Logic.{inl, inr}
+use mathlib.Core.Bool.{Bool, true, false, not, _&&_, cond, Bool·beq, true≢false}
+use Prim.Native.Nat.{ℕ, suc, _≤_}
 use native.Mathlib.Nat.{zero-lt-suc, mul-one, le-trans}
-use native.Mathlib.Omega.{arith}
 use borrow.Author.Tests.{lt-ltb}
-use lib.Dec.{T, leb, ltb, leb→le, lit<, lit≤}
-use lib.IntN.{ℤ, pos, negsuc, natAbs}
-use lib.Ieee.{Float, nan, inf, fin, binary32, unlike, round, neg, sub, mul, lt, le, ofBits, ofInt, isNan}
+use lib.Dec.{T, leb, leb→le, lit<, lit≤}
+use lib.IntN.{ℤ, pos, negsuc}
+use lib.Ieee.{Float, nan, inf, fin, binary32, unlike, round, neg, sub, mul, lt, le, ofBits, ofInt}
 use lib.Ieee.Fits.{and-l, and-r}
 use lib.Ieee.Back.{round-whole}
 use lib.Ieee.Exact.{HasValue}

@@ -1,19 +1,18 @@
 -- `FaceLaws` of the rule: exact tie, NaN, and the symmetry of the signs. Assumes nothing.
-use mathlib.Core.Path.{_≡_, refl, sym, ap, _∙_, subst}
+use mathlib.Core.Path.{_≡_, refl, sym, ap, _∙_}
 use mathlib.Core.Bool.{Bool, true, false, not, cond, Bool·beq}
-use Prim.Native.Nat.{ℕ, zero, suc}
+use Prim.Native.Nat.{zero, suc}
 use native.Mathlib.Nat.{zero-lt-suc}
 use borrow.Author.Tests.{lt-ltb}
 use lib.Dec.{T}
-use lib.IntN.{ℤ, pos, negsuc, natAbs, negℤ}
+use lib.IntN.{ℤ, pos, negsuc, negℤ}
 use lib.Ieee.{Float, nan, inf, fin, binary32, mul, lt, le, ofInt}
 use Rattle.binary32.specs.Numbers.{f32, magnitude, epsilon}
 use Rattle.cube.specs.declared.Cube.{Cube}
-use Rattle.cube.specs.Corners.{cornerOf}
 use Rattle.face.specs.declared.Square.{Square}
 use Rattle.face.specs.Columns.{squareOf}
-use Rattle.face.specs.Face.{faceCorner, rule, faceBy, faceOf, isFace, isPositive}
-use Rattle.face.specs.Laws.{alternate, FaceLaws, FaceLawsAt}
+use Rattle.face.specs.Face.{rule, faceBy, faceOf, isFace, isPositive}
+use Rattle.face.specs.Laws.{alternate, FaceLawsAt}
 use Rattle.face.proofs.Decision.{val, kept, square, turned, decided, kept-turned}
 
 pub exact-tie : (n : ℤ) (a b c d : Float) → T (lt (magnitude (val a b c d)) epsilon) → rule f32 n a b c d ≡ isPositive n

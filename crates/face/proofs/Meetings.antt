@@ -1,16 +1,14 @@
--- The test of term 3's premises, as the code makes it: the four ways out of `meets`, and what a test that holds says. Assumes nothing.
+-- The ways out of the code of the comparison: of `meets`, of `joins` and of `compare_faces`, to which term 3 is brought. Assumes nothing.
 use mathlib.Core.Path.{_≡_, refl, sym, ap, _∙_, subst}
 use mathlib.Core.Logic.{inl, inr}
-use mathlib.Core.List.{List, [], _∷_}
 use mathlib.Core.Bool.{Bool, true, false, not, _&&_, _||_, Bool·beq, and-true, and-assoc, or-false}
 use Prim.Native.Nat.{ℕ}
 use borrow.Author.Tests.{ne-eqb, not-true, not-false}
-use lib.Dec.{T, eqb, eqb→eq}
-use lib.IntN.{ℤ, natAbs}
-use lib.ListN.{getD}
+use lib.Dec.{T, eqb}
+use lib.IntN.{ℤ}
 use lib.Ieee.Bits.{is-true}
 use lib.Ieee.Fits.{and-l, and-r}
-use lib.Ieee.{Float, eq}
+use lib.Ieee.{eq}
 use Rattle.binary32.proofs.Bools.{either}
 use Rattle.cube.specs.declared.Cube.{Cube}
 use Rattle.cube.specs.declared.Refusal.the-variants.{NoFace, NotFinite}
@@ -19,8 +17,8 @@ use Rattle.face.specs.declared.Square.{Square}
 use Rattle.face.specs.Columns.{placeOf, squareOf}
 use Rattle.face.specs.Face.{faceCorners, faceOf, isFace, isPositive}
 use Rattle.face.specs.Laws.{alternate}
-use Rattle.face.specs.declared.meeting.Compared.the-variants.{Equal, Apart, NotCompared}
-use Rattle.face.specs.Meeting.{valuesAt, sameValues, Meets, one-three, two-four, five-six, meetAt, meet, alternateAt, joined, equal, apart, refused, comparedOf, AgreeBySign}
+use Rattle.face.specs.declared.meeting.Compared.the-variants.{Equal, Apart, Refused}
+use Rattle.face.specs.Meeting.{sameValues, meetAt, meet, alternateAt, joined, equal, apart, refused, comparedOf, AgreeBySign}
 use Rattle.face.proofs.Agreement.{by-signs}
 use Rattle.face.proofs.Places.{face-place, face-size}
 
@@ -48,44 +46,18 @@ premises k n l p i j m t s ei ej em es et =
     ap (λ (x : Bool). x && t) (em ∙ (λ o. meet k (ei o) l (ej o)))
     ∙ ap (λ (x : Bool). meet k (placeOf n) l (placeOf p) && x) (et ∙ ap (λ (x : Square). alternate (x .a) (x .b) (x .c) (x .d)) es)
 
--- ---- what a test that holds says
-module _ (k : Cube) (n : ℤ) (l : Cube) (p : ℤ) where
-  met-at : (f g : ℕ) (cs : List ℕ) → T (meetAt k (natAbs n) l (natAbs p) f g cs) → (natAbs n ≡ f) × (natAbs p ≡ g) × T (sameValues (valuesAt k (getD faceCorners f [])) (valuesAt l cs))
-  unfolding meetAt
-  met-at f g cs t =
-      let same = sameValues (valuesAt k (getD faceCorners f [])) (valuesAt l cs) in
-      let rest = and-r (eqb (natAbs n) f) (eqb (natAbs p) g && same) t in
-      (eqb→eq (natAbs n) f (and-l (eqb (natAbs n) f) (eqb (natAbs p) g && same) t), eqb→eq (natAbs p) g (and-l (eqb (natAbs p) g) same rest), and-r (eqb (natAbs p) g) same rest)
-
-  met : T (meet k (natAbs n) l (natAbs p)) → Meets k n l p
-  unfolding meet faceCorners
-  met t =
-      elim (either (meetAt k (natAbs n) l (natAbs p) 1 3 (3 ∷ 7 ∷ 6 ∷ 2 ∷ [])) (meetAt k (natAbs n) l (natAbs p) 2 4 (0 ∷ 4 ∷ 7 ∷ 3 ∷ []) || meetAt k (natAbs n) l (natAbs p) 5 6 (4 ∷ 7 ∷ 6 ∷ 5 ∷ [])) t) [
-        | inl u ↦ let h = met-at 1 3 (3 ∷ 7 ∷ 6 ∷ 2 ∷ []) u in one-three (h .0) (h .1) (h .2)
-        | inr u ↦
-            elim (either (meetAt k (natAbs n) l (natAbs p) 2 4 (0 ∷ 4 ∷ 7 ∷ 3 ∷ [])) (meetAt k (natAbs n) l (natAbs p) 5 6 (4 ∷ 7 ∷ 6 ∷ 5 ∷ [])) u) [
-              | inl v ↦ let h = met-at 2 4 (0 ∷ 4 ∷ 7 ∷ 3 ∷ []) v in two-four (h .0) (h .1) (h .2)
-              | inr v ↦ let h = met-at 5 6 (4 ∷ 7 ∷ 6 ∷ 5 ∷ []) v in five-six (h .0) (h .1) (h .2)
-            ]
-      ]
-
-  joined-signs : T (joined k n l p) → Bool·beq (faceOf k n) (faceOf l p) ≡ Bool·beq (isPositive n) (isPositive p)
-  unfolding joined
-  joined-signs t =
-      by-signs k n l p (met (and-l (meet k (natAbs n) l (natAbs p)) (alternateAt k n) t)) (and-r (meet k (natAbs n) l (natAbs p)) (alternateAt k n) t)
-
+-- ---- term 3, whichever cube has the first face
 beq-comm : (x y : Bool) → Bool·beq x y ≡ Bool·beq y x
 beq-comm true true = refl
 beq-comm true false = refl
 beq-comm false true = refl
 beq-comm false false = refl
 
--- whichever cube has the first face
 agree : (k : Cube) (n : ℤ) (l : Cube) (p : ℤ) → T (joined k n l p || joined l p k n) → Bool·beq (faceOf k n) (faceOf l p) ≡ Bool·beq (isPositive n) (isPositive p)
 agree k n l p t =
     elim (either (joined k n l p) (joined l p k n) t) [
-      | inl u ↦ joined-signs k n l p u
-      | inr u ↦ beq-comm (faceOf k n) (faceOf l p) ∙ joined-signs l p k n u ∙ beq-comm (isPositive p) (isPositive n)
+      | inl u ↦ by-signs k n l p u
+      | inr u ↦ beq-comm (faceOf k n) (faceOf l p) ∙ by-signs l p k n u ∙ beq-comm (isPositive p) (isPositive n)
     ]
 
 -- ---- the four ways out of `compare_faces`
@@ -100,12 +72,12 @@ module _ (k : Cube) (n : ℤ) (l : Cube) (p : ℤ) (i j : ℕ) (ei : i ≡ place
   faces : isFace n && isFace p ≡ not (eqb i 0 || eqb j 0)
   faces = (λ o. ((face-place n ∙ ap (λ (z : ℕ). not (eqb z 0)) (sym ei)) o) && ((face-place p ∙ ap (λ (z : ℕ). not (eqb z 0)) (sym ej)) o)) ∙ not-or (eqb i 0) (eqb j 0)
 
-  pub no-face : eqb i 0 || eqb j 0 ≡ true → (refused 4 ≡ comparedOf k n l p) × AgreeBySign n p (NotCompared NoFace)
+  pub no-face : eqb i 0 || eqb j 0 ≡ true → (refused 4 ≡ comparedOf k n l p) × AgreeBySign n p (Refused NoFace)
   unfolding comparedOf
   no-face h = (rw (faces, h), λ b e. cc)
 
   module _ (h : eqb i 0 || eqb j 0 ≡ false) (x y : Bool) (ex : x ≡ allFinite k) (ey : y ≡ allFinite l) where
-    pub not-finite : not (x && y) ≡ true → (refused 3 ≡ comparedOf k n l p) × AgreeBySign n p (NotCompared NotFinite)
+    pub not-finite : not (x && y) ≡ true → (refused 3 ≡ comparedOf k n l p) × AgreeBySign n p (Refused NotFinite)
     unfolding comparedOf
     not-finite g = (rw (faces, h, ← ex, ← ey, not-true (x && y) g), λ b e. cc)
 

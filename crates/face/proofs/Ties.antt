@@ -1,6 +1,6 @@
 -- The tie of the face test as code makes it, -2^-23 < val < 2^-23, is |val| < 2^-23, at a NaN too. Assumes nothing.
 use mathlib.Core.Path.{_≡_, refl, sym, _∙_}
-use mathlib.Core.Bool.{Bool, true, false, _&&_, and-true}
+use mathlib.Core.Bool.{true, false, _&&_, and-true}
 use Prim.Native.Nat.{ℕ, _+_, _*_, _<_}
 use native.Mathlib.Omega.{arith}
 use borrow.Author.Tests.{lt-ltb}

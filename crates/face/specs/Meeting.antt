@@ -14,7 +14,7 @@ use Rattle.cube.specs.declared.Cube.{Cube}
 use Rattle.cube.specs.Corners.{cornerOf, allFinite}
 use Rattle.cube.specs.Refusals.{refusalNumber}
 use Rattle.face.specs.declared.meeting.Compared.{Compared}
-use Rattle.face.specs.declared.meeting.Compared.the-variants.{Equal, Apart, NotCompared}
+use Rattle.face.specs.declared.meeting.Compared.the-variants.{Equal, Apart, Refused}
 use Rattle.face.specs.Face.{faceCorners, faceCorner, faceOf, isFace, isPositive}
 use Rattle.face.specs.Laws.{alternate}
 
@@ -29,31 +29,36 @@ sameValues [] (y ∷ ys) = false
 sameValues (x ∷ xs) [] = false
 sameValues (x ∷ xs) (y ∷ ys) = eq x y && sameValues xs ys
 
+-- |n| is f and |p| is g, and the corners of k's face f have the values of l's corners cs, in order
+unfoldable pub meetAt : Cube → ℕ → Cube → ℕ → ℕ → ℕ → List ℕ → Bool
+meetAt k n l p f g cs = eqb n f && (eqb p g && sameValues (valuesAt k (getD faceCorners f [])) (valuesAt l cs))
+
 -- Where two cubes meet, 1's corners are the other's 3,7,6,2; 2's are 0,4,7,3; 5's are 4,7,6,5, in those orders.
-pub data Meets (k : Cube) (n : ℤ) (l : Cube) (p : ℤ) : Type 0 where
-  one-three : natAbs n ≡ 1 → natAbs p ≡ 3 → T (sameValues (valuesAt k (0 ∷ 4 ∷ 5 ∷ 1 ∷ [])) (valuesAt l (3 ∷ 7 ∷ 6 ∷ 2 ∷ []))) → Meets k n l p
-  two-four : natAbs n ≡ 2 → natAbs p ≡ 4 → T (sameValues (valuesAt k (1 ∷ 5 ∷ 6 ∷ 2 ∷ [])) (valuesAt l (0 ∷ 4 ∷ 7 ∷ 3 ∷ []))) → Meets k n l p
-  five-six : natAbs n ≡ 5 → natAbs p ≡ 6 → T (sameValues (valuesAt k (0 ∷ 3 ∷ 2 ∷ 1 ∷ [])) (valuesAt l (4 ∷ 7 ∷ 6 ∷ 5 ∷ []))) → Meets k n l p
+abbrev pub others-of-1 : List ℕ
+others-of-1 = 3 ∷ 7 ∷ 6 ∷ 2 ∷ []
+
+abbrev pub others-of-2 : List ℕ
+others-of-2 = 0 ∷ 4 ∷ 7 ∷ 3 ∷ []
+
+abbrev pub others-of-5 : List ℕ
+others-of-5 = 4 ∷ 7 ∷ 6 ∷ 5 ∷ []
+
+-- two cubes meet at a face: 1 with 3, 2 with 4, 5 with 6
+unfoldable pub meet : Cube → ℕ → Cube → ℕ → Bool
+meet k n l p = meetAt k n l p 1 3 others-of-1 || (meetAt k n l p 2 4 others-of-2 || meetAt k n l p 5 6 others-of-5)
 
 -- the values of a face alternate, in the range
 unfoldable pub alternateAt : Cube → ℤ → Bool
 alternateAt k n = alternate (cornerOf k (faceCorner n 0)) (cornerOf k (faceCorner n 1)) (cornerOf k (faceCorner n 2)) (cornerOf k (faceCorner n 3))
 
-abbrev pub FacesAgree : Type 0
-FacesAgree = (k : Cube) (n : ℤ) (l : Cube) (p : ℤ) → Meets k n l p → T (alternateAt k n) → (faceOf k n ≡ faceOf l p) ↔ (isPositive n ≡ isPositive p)
-
--- ---- the routine: refusal 4, then 3; faces that do not meet so are apart; of two that do, whether the answers are equal
-
--- face f of k meets face g of l, whose corners are cs in the order of f's
-unfoldable pub meetAt : Cube → ℕ → Cube → ℕ → ℕ → ℕ → List ℕ → Bool
-meetAt k n l p f g cs = eqb n f && (eqb p g && sameValues (valuesAt k (getD faceCorners f [])) (valuesAt l cs))
-
-unfoldable pub meet : Cube → ℕ → Cube → ℕ → Bool
-meet k n l p =
-    meetAt k n l p 1 3 (3 ∷ 7 ∷ 6 ∷ 2 ∷ []) || (meetAt k n l p 2 4 (0 ∷ 4 ∷ 7 ∷ 3 ∷ []) || meetAt k n l p 5 6 (4 ∷ 7 ∷ 6 ∷ 5 ∷ []))
-
+-- term 3's premises, with face 1, 2 or 5 in the first cube
 unfoldable pub joined : Cube → ℤ → Cube → ℤ → Bool
 joined k n l p = meet k (natAbs n) l (natAbs p) && alternateAt k n
+
+abbrev pub FacesAgree : Type 0
+FacesAgree = (k : Cube) (n : ℤ) (l : Cube) (p : ℤ) → T (joined k n l p) → (faceOf k n ≡ faceOf l p) ↔ (isPositive n ≡ isPositive p)
+
+-- ---- the routine: refusal 4, then 3; faces that do not meet so are apart; of two that do, whether the answers are equal
 
 pub data Said : Type 0 where
   equal : Bool → Said
@@ -64,7 +69,7 @@ pub data Said : Type 0 where
 abbrev pub said : Compared → Said
 said (Equal b) = equal b
 said Apart = apart
-said (NotCompared why) = refused (refusalNumber why)
+said (Refused why) = refused (refusalNumber why)
 
 unfoldable pub comparedOf : Cube → ℤ → Cube → ℤ → Said
 comparedOf k n l p =

@@ -14,13 +14,14 @@ use cube::Face;
 use cube::Refusal;
 use cube::Split;
 
+// What the face test says.
 pub enum FaceAnswer {
     Answer(bool),
     Refused(Refusal),
 }
 
 // The values at the corners of a face, in the face's order.
-pub struct Square {
+struct Square {
     pub a: f32,
     pub b: f32,
     pub c: f32,
@@ -46,6 +47,7 @@ fn place(face: Face) -> u32
     }
 }
 
+// val = a×c - b×d; a tie answers face > 0, else (face × a) × val >= 0 does.
 fn join(face: Face, a: f32, b: f32, c: f32, d: f32) -> bool
     ensures { λ r. ⌜ r ≡ rule f32 (face .0) a b c d ⌝ }
 {
@@ -64,6 +66,7 @@ fn read(values: &[f32; 8], column: u64, k: u32) -> f32
     cube::value_at(values, cube::corner_in(column, k))
 }
 
+// The values at the face's corners.
 fn square_of(q: Cube, face: Face) -> Square
     ensures { λ r. ⌜ r ≡ squareOf q (face .0) ⌝ }
 {
@@ -86,6 +89,7 @@ pub fn face_answer(q: Cube, face: Face) -> bool
     join(face, s.a, s.b, s.c, s.d)
 }
 
+// The face test: refusal 4 where the number is no face, 3 where a corner is not finite, or the answer.
 pub fn test_face(q: Cube, face: Face) -> FaceAnswer
     ensures { λ r. ⌜ said r ≡ testFaceOf q (face .0) ⌝ }
 {

@@ -17,7 +17,7 @@ use cube::Refusal;
 pub enum Compared {
     Equal(bool),
     Apart,
-    NotCompared(Refusal),
+    Refused(Refusal),
 }
 
 // From 1e-6 to 2^63.
@@ -61,10 +61,10 @@ pub fn compare_faces(k: Cube, n: Face, l: Cube, p: Face) -> Compared
     ensures by_sign { λ r. ⌜ AgreeBySign (n .0) (p .0) r ⌝ }
 {
     if (place(n) == 0) | (place(p) == 0) {
-        return Compared::NotCompared(Refusal::NoFace);
+        return Compared::Refused(Refusal::NoFace);
     }
     if !(cube::all_finite(k) & cube::all_finite(l)) {
-        return Compared::NotCompared(Refusal::NotFinite);
+        return Compared::Refused(Refusal::NotFinite);
     }
     if joins(k, n, l, p) | joins(l, p, k, n) {
         return Compared::Equal(face_answer(k, n) == face_answer(l, p));

@@ -61,7 +61,7 @@ fn compare(k: Cube, n: i8, l: Cube, p: i8) {
         Compared::Apart => {
             io::write_all(1, b"apart\n");
         }
-        Compared::NotCompared(why) => print_refusal(why),
+        Compared::Refused(why) => print_refusal(why),
     }
 }
 

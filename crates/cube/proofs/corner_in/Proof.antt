@@ -1,5 +1,5 @@
 -- `cube::corner_in` is `digitOf`: past place 15 a number of 64 bits has no digits left.
-use mathlib.Core.Path.{_≡_, sym}
+use mathlib.Core.Path.{_≡_}
 use Prim.Native.Nat.{ℕ, _*_, _/_, _%_, _^_, _≤_, _<_}
 use native.Mathlib.Nat.{div-eq-of-lt, lt-of-lt-of-le}
 use native.Mathlib.Omega.{arith}
