@@ -9,7 +9,7 @@ use native.Mathlib.Omega.{arith}
 use borrow.Author.Tests.{lt-ltb, le-ltb, eq-eqb, ne-eqb}
 use lib.Dec.{T, ltb, eqb, ltb→lt, nltb→le}
 use lib.IntN.{ℤ, pos}
-use lib.Ieee.{Float, nan, inf, fin, Format, binary32, prec, emax, low, up, down, unlike, odd, units, round, neg, sub, mul, lt, le, isNan}
+use lib.Ieee.{Float, nan, inf, fin, Format, binary32, prec, emax, low, up, down, unlike, odd, units, round, sub, mul, lt, le, isNan}
 use lib.Ieee.Fits.{round-is, up-pos, down-pos}
 use lib.Ieee.Positive.{positive, above, above-of-le, mul-mono}
 use Rattle.binary32.proofs.Finite.{round-nought}
@@ -155,22 +155,18 @@ above-real nan h = absurd h
 above-real (inf s) h = refl
 above-real (fin s m e) h = refl
 
--- ---- with both factors negated a product stays
-unlike-not : (s t : Bool) → unlike s t ≡ unlike (not s) (not t)
-unlike-not true true = refl
-unlike-not true false = refl
-unlike-not false true = refl
-unlike-not false false = refl
+-- ---- a value with a magnitude above zero and a plus is its magnitude
+pub positive-above : (x : Float) → T (positive x) → T (above x)
+positive-above nan p = absurd p
+positive-above (inf s) p = absurd p
+positive-above (fin true m e) p = absurd p
+positive-above (fin false m e) p = p
 
-pub mul-neg : (f : Format) (x y : Float) → mul f x y ≡ mul f (neg x) (neg y)
-unfolding mul neg
-mul-neg f nan y = refl
-mul-neg f (inf s) nan = refl
-mul-neg f (inf s) (inf t) = ap inf (unlike-not s t)
-mul-neg f (inf s) (fin t n d) = ap (λ (u : Bool). cond (eqb n 0) nan (inf u)) (unlike-not s t)
-mul-neg f (fin s m e) nan = refl
-mul-neg f (fin s m e) (inf t) = ap (λ (u : Bool). cond (eqb m 0) nan (inf u)) (unlike-not s t)
-mul-neg f (fin s m e) (fin t n d) = ap (λ (u : Bool). round f u (m * up e * (n * up d)) (down e * down d)) (unlike-not s t)
+pub plain : (x : Float) → T (positive (magnitude x)) → sgn x ≡ false → T (positive x)
+plain nan p h = absurd p
+plain (inf s) p h = absurd p
+plain (fin true m e) p h = absurd (true≢false h)
+plain (fin false m e) p h = p
 
 -- ---- x - y and y - x, for x and y above zero
 pub record Swapped (v w : Float) : Type 0 where

@@ -17,7 +17,7 @@ use Rattle.cube.specs.Corners.{cornerOf}
 use Rattle.face.specs.Face.{faceCorners, faceCorner, rule, faceBy, faceOf, isFace, isPositive}
 use Rattle.face.specs.Laws.{alternate}
 use Rattle.face.specs.Meeting.{valuesAt, sameValues, meetAt, others-of-1, others-of-2, others-of-5, meet, alternateAt, joined, FacesAgree}
-use Rattle.face.proofs.Decision.{Square, square, sizes, turned, rule-same, kept, decided, kept-turned}
+use Rattle.face.proofs.Decision.{Square, square, has-size, turned, rule-same, kept, decided, kept-turned}
 
 beq-refl : (p : Bool) → Bool·beq p p ≡ true
 beq-refl true = refl
@@ -37,12 +37,12 @@ cancel false true false = refl
 cancel false false true = refl
 cancel false false false = refl
 
-module _ (n p : ℤ) (tn : T (isFace n)) (tp : T (isFace p)) (a b c d : Float) (s : Square a b c d) where
+module _ (n p : ℤ) (tn : T (isFace n)) (tp : T (isFace p)) (a b c d : Float) {s : Bool} (q : Square s a b c d) where
   same-side : Bool·beq (rule f32 n a b c d) (rule f32 p a b c d) ≡ Bool·beq (isPositive n) (isPositive p)
-  same-side = rw (decided n tn a b c d s, decided p tp a b c d s) (cancel (kept a b c d) (isPositive n) (isPositive p))
+  same-side = rw (decided n tn a b c d q, decided p tp a b c d q) (cancel (kept a b c d) (isPositive n) (isPositive p))
 
   other-side : Bool·beq (rule f32 n a b c d) (rule f32 p d c b a) ≡ Bool·beq (isPositive n) (isPositive p)
-  other-side = rw (decided n tn a b c d s, decided p tp d c b a (turned s), ← kept-turned a b c d s) (cancel (kept a b c d) (isPositive n) (isPositive p))
+  other-side = rw (decided n tn a b c d q, decided p tp d c b a (turned q), ← kept-turned a b c d q) (cancel (kept a b c d) (isPositive n) (isPositive p))
 
 -- ---- a face by its number's size
 abbrev entry : ℕ → ℕ → ℕ
@@ -85,19 +85,17 @@ module _ (k : Cube) (n : ℤ) (l : Cube) (p : ℤ) (f g : ℕ) (en : natAbs n �
   across : T (eq d (cornerOf l (entry g 0))) → T (eq c (cornerOf l (entry g 1))) → T (eq b (cornerOf l (entry g 2))) → T (eq a (cornerOf l (entry g 3)))
       → Bool·beq (faceOf k n) (faceOf l p) ≡ Bool·beq (isPositive n) (isPositive p)
   across ed ec eb ea =
-      let u = alternate-of k n f en t in
-      let z = sizes a b c d u in
-      reads d c b a (eq→same d _ (z .3) ed) (eq→same c _ (z .2) ec) (eq→same b _ (z .1) eb) (eq→same a _ (z .0) ea)
-      (other-side n p (face-number k n f en tf) (face-number l p g ep tg) a b c d (square a b c d u))
+      let q = square a b c d (alternate-of k n f en t) .1 in
+      reads d c b a (eq→same d _ (has-size (q .at-d)) ed) (eq→same c _ (has-size (q .at-c)) ec) (eq→same b _ (has-size (q .at-b)) eb) (eq→same a _ (has-size (q .at-a)) ea)
+      (other-side n p (face-number k n f en tf) (face-number l p g ep tg) a b c d q)
 
   -- it reads them as a, b, c, d
   along : T (eq a (cornerOf l (entry g 0))) → T (eq b (cornerOf l (entry g 1))) → T (eq c (cornerOf l (entry g 2))) → T (eq d (cornerOf l (entry g 3)))
       → Bool·beq (faceOf k n) (faceOf l p) ≡ Bool·beq (isPositive n) (isPositive p)
   along ea eb ec ed =
-      let u = alternate-of k n f en t in
-      let z = sizes a b c d u in
-      reads a b c d (eq→same a _ (z .0) ea) (eq→same b _ (z .1) eb) (eq→same c _ (z .2) ec) (eq→same d _ (z .3) ed)
-      (same-side n p (face-number k n f en tf) (face-number l p g ep tg) a b c d (square a b c d u))
+      let q = square a b c d (alternate-of k n f en t) .1 in
+      reads a b c d (eq→same a _ (has-size (q .at-a)) ea) (eq→same b _ (has-size (q .at-b)) eb) (eq→same c _ (has-size (q .at-c)) ec) (eq→same d _ (has-size (q .at-d)) ed)
+      (same-side n p (face-number k n f en tf) (face-number l p g ep tg) a b c d q)
 
 each : (w x y z w' x' y' z' : Float) → T (sameValues (w ∷ x ∷ y ∷ z ∷ []) (w' ∷ x' ∷ y' ∷ z' ∷ [])) → T (eq w w') × T (eq x x') × T (eq y y') × T (eq z z')
 unfolding sameValues

@@ -10,7 +10,7 @@ use lib.Ieee.{binary32, ofBits, neg, sub, mul, lt, eq, le, ofInt}
 use Rattle.cube.specs.declared.Cube.{Cube}
 use Rattle.cube.specs.Corners.{corners, valueAt, cornerOf, allFinite}
 use Rattle.face.specs.Face.{faceCorners, faceCorner, rule, faceBy, faceOf, Said, answer, refused, testFaceOf}
-use Rattle.face.specs.Laws.{inRange, alternate}
+use Rattle.face.specs.Laws.{inRange, upAndDown, alternate}
 use Rattle.face.specs.Meeting as Meeting
 use Rattle.face.specs.Meeting.{sameValues, meetAt, meet, alternateAt, joined, comparedOf, equal, apart}
 
@@ -151,9 +151,9 @@ abbrev told : Pair → Pair
 told t = record { k = t .k; n = t .n; l = t .l; p = t .p; first = faceOf (t .k) (t .n); second = faceOf (t .l) (t .p); says = comparedOf (t .k) (t .n) (t .l) (t .p) }
 
 meeting-holds : map told meeting ≡ meeting
-unfolding meeting comparedOf joined meet meetAt sameValues alternateAt alternate inRange faceOf faceBy rule faceCorner faceCorners cornerOf valueAt corners allFinite ofBits neg sub mul lt eq le ofInt
+unfolding meeting comparedOf joined meet meetAt sameValues alternateAt alternate upAndDown inRange faceOf faceBy rule faceCorner faceCorners cornerOf valueAt corners allFinite ofBits neg sub mul lt eq le ofInt
 meeting-holds = refl
 
 parting-holds : map told parting ≡ parting
-unfolding parting comparedOf joined meet meetAt sameValues alternateAt alternate inRange faceOf faceBy rule faceCorner faceCorners cornerOf valueAt corners allFinite ofBits neg sub mul lt eq le ofInt
+unfolding parting comparedOf joined meet meetAt sameValues alternateAt alternate upAndDown inRange faceOf faceBy rule faceCorner faceCorners cornerOf valueAt corners allFinite ofBits neg sub mul lt eq le ofInt
 parting-holds = refl

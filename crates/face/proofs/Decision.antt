@@ -2,7 +2,7 @@
 -- the values, and the values read from the other side, d, c, b, a, have the same Bool. Assumes nothing.
 use mathlib.Core.Path.{_≡_, refl, sym, ap, _∙_, subst}
 use mathlib.Core.Logic.{inl, inr}
-use mathlib.Core.Bool.{Bool, true, false, not, _&&_, cond, Bool·beq, true≢false}
+use mathlib.Core.Bool.{Bool, true, false, not, cond, Bool·beq, true≢false}
 use Prim.Native.Nat.{ℕ, suc, _≤_}
 use native.Mathlib.Nat.{zero-lt-suc, mul-one, le-trans}
 use borrow.Author.Tests.{lt-ltb}
@@ -17,27 +17,18 @@ use lib.Ieee.Scale.{finite}
 use lib.Ieee.Positive.{positive, above, above-of-le, between, mul-mono}
 use Rattle.binary32.specs.Numbers.{f32, magnitude, epsilon}
 use Rattle.binary32.proofs.Bools.{either, four}
-use Rattle.binary32.proofs.Magnitudes.{sgn, round-told, magnitude-mul, sgn-mul, mul-comm-float, sign-test, le-mul, not-less, above-real, mul-neg, Swapped, sub-swapped}
+use Rattle.binary32.proofs.Magnitudes.{sgn, round-told, magnitude-mul, sgn-mul, mul-comm-float, sign-test, le-mul, not-less, above-real, positive-above, plain, Swapped, sub-swapped}
 use Rattle.binary32.proofs.Same.{Same, same-refl, mul-same}
 use Rattle.face.specs.Face.{rule, isFace, isPositive}
-use Rattle.face.specs.Laws.{least, most, inRange, alternate}
+use Rattle.face.specs.Laws.{least, most, inRange, upAndDown, alternate}
 
 abbrev one : Float
 one = fin false 1 (pos 0)
 
--- ---- one value in range, and one whose negation is
-plus : (x : Float) → T (positive x) → (magnitude x ≡ x) × (sgn x ≡ false)
-plus nan p = absurd p
-plus (inf s) p = absurd p
-plus (fin true m e) p = absurd p
-plus (fin false m e) p = (refl, refl)
-
-minus : (x : Float) → T (positive (neg x)) → (magnitude x ≡ neg x) × (sgn x ≡ true)
-unfolding neg
-minus nan p = absurd p
-minus (inf s) p = absurd p
-minus (fin true m e) p = (refl, refl)
-minus (fin false m e) p = absurd p
+-- ---- one value of a sign, its magnitude in the range
+pub record Ranged (s : Bool) (x : Float) : Type 0 where
+  pub size : T (inRange (magnitude x))
+  pub sign : sgn x ≡ s
 
 low-end : (x : Float) → T (inRange x) → T (le least x)
 unfolding inRange
@@ -47,95 +38,86 @@ high-end : (x : Float) → T (inRange x) → T (le x most)
 unfolding inRange
 high-end x t = and-r (le least x) (le x most) t
 
-in-range-positive : (x : Float) → T (inRange x) → T (positive x)
+least-positive : T (positive least)
 unfolding ofBits
-in-range-positive x t = between least x most tt tt (low-end x t) (high-end x t)
+least-positive = tt
 
-product : (x y : Float) → T (inRange x) → T (inRange y) → T (positive (mul binary32 x y))
-product x y s t =
+in-range-positive : (x : Float) → T (inRange x) → T (positive x)
+in-range-positive x t = between least x most least-positive tt (low-end x t) (high-end x t)
+
+up : (x : Float) → T (inRange x) → Ranged false x
+up x t = go x (in-range-positive x t) t
+  where
+    go : (x : Float) → T (positive x) → T (inRange x) → Ranged false x
+    go nan p t = absurd p
+    go (inf s) p t = absurd p
+    go (fin true m e) p t = absurd p
+    go (fin false m e) p t = record { size = t; sign = refl }
+
+down : (x : Float) → T (inRange (neg x)) → Ranged true x
+unfolding neg
+down x t = go x (in-range-positive (neg x) t) t
+  where
+    go : (x : Float) → T (positive (neg x)) → T (inRange (neg x)) → Ranged true x
+    go nan p t = absurd p
+    go (inf s) p t = absurd p
+    go (fin true m e) p t = record { size = t; sign = refl }
+    go (fin false m e) p t = absurd p
+
+-- ---- two values of one sign have a product above zero and below the infinity
+sizes-product : (x y : Float) → T (inRange x) → T (inRange y) → T (positive (mul binary32 x y))
+sizes-product x y s t =
     let p = in-range-positive x s in
     let q = in-range-positive y t in
     between (mul binary32 least least) (mul binary32 x y) (mul binary32 most most) low high
-    (mul-mono binary32 least x least y ends p ends q (low-end x s) (low-end y t))
+    (mul-mono binary32 least x least y least-positive p least-positive q (low-end x s) (low-end y t))
     (mul-mono binary32 x most y most p tt q tt (high-end x s) (high-end y t))
   where
-    ends : T (positive least)
-    ends = unfold ofBits in tt
-
     low : T (positive (mul binary32 least least))
     low = unfold ofBits mul in tt
 
     high : T (positive (mul binary32 most most))
     high = unfold mul in tt
 
-plus-size : (x : Float) → T (inRange x) → T (positive (magnitude x))
-plus-size x t = let p = in-range-positive x t in subst (λ (y : Float). T (positive y)) (sym (plus x p .0)) p
+alike : (s : Bool) → unlike s s ≡ false
+alike true = refl
+alike false = refl
 
-minus-size : (x : Float) → T (inRange (neg x)) → T (positive (magnitude x))
-minus-size x t = let p = in-range-positive (neg x) t in subst (λ (y : Float). T (positive y)) (sym (minus x p .0)) p
+product : {s : Bool} {x y : Float} → Ranged s x → Ranged s y → T (positive (mul binary32 x y))
+product {s} {x} {y} r q =
+    let p : T (positive (magnitude (mul binary32 x y))) = subst (λ (z : Float). T (positive z)) (sym (magnitude-mul binary32 x y)) (sizes-product (magnitude x) (magnitude y) (r .size) (q .size)) in
+    plain (mul binary32 x y) p (sgn-mul binary32 x y (above-real (mul binary32 x y) (positive-above (magnitude (mul binary32 x y)) p)) ∙ (λ i. unlike (r .sign i) (q .sign i)) ∙ alike s)
 
--- ---- four values
-pub record Square (a b c d : Float) : Type 0 where
-  pub left : T (positive (mul binary32 a c))
-  pub right : T (positive (mul binary32 b d))
-  pub size-a : T (le least (magnitude a))
-  pub size-d : T (le least (magnitude d))
-  pub opposed : sgn d ≡ not (sgn a)
+-- ---- four values that alternate: a has the sign s
+pub record Square (s : Bool) (a b c d : Float) : Type 0 where
+  pub at-a : Ranged s a
+  pub at-b : Ranged (not s) b
+  pub at-c : Ranged s c
+  pub at-d : Ranged (not s) d
 
-square-up : (a b c d : Float) → T (inRange a) → T (inRange (neg b)) → T (inRange c) → T (inRange (neg d)) → Square a b c d
-square-up a b c d ra rb rc rd =
-    let pa = plus a (in-range-positive a ra) in
-    let pd = minus d (in-range-positive (neg d) rd) in
-    record {
-      left = product a c ra rc;
-      right = subst (λ (x : Float). T (positive x)) (sym (mul-neg binary32 b d)) (product (neg b) (neg d) rb rd);
-      size-a = subst (λ (x : Float). T (le least x)) (sym (pa .0)) (low-end a ra);
-      size-d = subst (λ (x : Float). T (le least x)) (sym (pd .0)) (low-end (neg d) rd);
-      opposed = pd .1 ∙ ap not (sym (pa .1));
-    }
-
-square-down : (a b c d : Float) → T (inRange (neg a)) → T (inRange b) → T (inRange (neg c)) → T (inRange d) → Square a b c d
-square-down a b c d ra rb rc rd =
-    let pa = minus a (in-range-positive (neg a) ra) in
-    let pd = plus d (in-range-positive d rd) in
-    record {
-      left = subst (λ (x : Float). T (positive x)) (sym (mul-neg binary32 a c)) (product (neg a) (neg c) ra rc);
-      right = product b d rb rd;
-      size-a = subst (λ (x : Float). T (le least x)) (sym (pa .0)) (low-end (neg a) ra);
-      size-d = subst (λ (x : Float). T (le least x)) (sym (pd .0)) (low-end d rd);
-      opposed = pd .1 ∙ ap not (sym (pa .1));
-    }
-
-pub square : (a b c d : Float) → T (alternate a b c d) → Square a b c d
-unfolding alternate
+pub square : (a b c d : Float) → T (alternate a b c d) → (s : Bool) × Square s a b c d
+unfolding alternate upAndDown
 square a b c d t =
-    elim (either (inRange a && inRange (neg b) && inRange c && inRange (neg d)) (inRange (neg a) && inRange b && inRange (neg c) && inRange d) t) [
-      | inl u ↦ let h = four (inRange a) (inRange (neg b)) (inRange c) (inRange (neg d)) u in square-up a b c d (h .0) (h .1) (h .2) (h .3)
-      | inr u ↦ let h = four (inRange (neg a)) (inRange b) (inRange (neg c)) (inRange d) u in square-down a b c d (h .0) (h .1) (h .2) (h .3)
+    elim (either (upAndDown a b c d) (upAndDown b a d c) t) [
+      | inl u ↦ let h = four (inRange a) (inRange (neg b)) (inRange c) (inRange (neg d)) u in (false, record { at-a = up a (h .0); at-b = down b (h .1); at-c = up c (h .2); at-d = down d (h .3) })
+      | inr u ↦ let h = four (inRange b) (inRange (neg a)) (inRange d) (inRange (neg c)) u in (true, record { at-a = down a (h .1); at-b = up b (h .0); at-c = down c (h .3); at-d = up d (h .2) })
     ]
 
--- all four have a size
-pub sizes : (a b c d : Float) → T (alternate a b c d) → T (positive (magnitude a)) × T (positive (magnitude b)) × T (positive (magnitude c)) × T (positive (magnitude d))
-unfolding alternate
-sizes a b c d t =
-    elim (either (inRange a && inRange (neg b) && inRange c && inRange (neg d)) (inRange (neg a) && inRange b && inRange (neg c) && inRange d) t) [
-      | inl u ↦ let h = four (inRange a) (inRange (neg b)) (inRange c) (inRange (neg d)) u in (plus-size a (h .0), minus-size b (h .1), plus-size c (h .2), minus-size d (h .3))
-      | inr u ↦ let h = four (inRange (neg a)) (inRange b) (inRange (neg c)) (inRange d) u in (minus-size a (h .0), plus-size b (h .1), minus-size c (h .2), plus-size d (h .3))
-    ]
+pub has-size : {s : Bool} {x : Float} → Ranged s x → T (positive (magnitude x))
+has-size {s} {x} r = in-range-positive (magnitude x) (r .size)
 
 -- the same four values from the other side
-pub turned : {a b c d : Float} → Square a b c d → Square d c b a
-turned {a} {b} {c} {d} s = record {
-  left = subst (λ (x : Float). T (positive x)) (mul-comm-float binary32 b d) (s .right);
-  right = subst (λ (x : Float). T (positive x)) (mul-comm-float binary32 a c) (s .left);
-  size-a = s .size-d;
-  size-d = s .size-a;
-  opposed = sym (not-not (sgn a)) ∙ ap not (sym (s .opposed));
+not-not : (s : Bool) → s ≡ not (not s)
+not-not true = refl
+not-not false = refl
+
+pub turned : {s : Bool} {a b c d : Float} → Square s a b c d → Square (not s) d c b a
+turned {s} {a} {b} {c} {d} q = record {
+  at-a = q .at-d;
+  at-b = subst (λ (z : Bool). Ranged z c) (not-not s) (q .at-c);
+  at-c = q .at-b;
+  at-d = subst (λ (z : Bool). Ranged z a) (not-not s) (q .at-a);
 }
-  where
-    not-not : (b : Bool) → not (not b) ≡ b
-    not-not true = refl
-    not-not false = refl
 
 -- ---- the Bool of the values
 abbrev pub val : Float → Float → Float → Float → Float
@@ -159,15 +141,15 @@ number (negsuc m) t =
     (r .1, subst (λ (x : Float). T (le one x)) (sym (r .0)) (unfold round in round-mono binary32 1 1 (suc m) 1 (lit< tt) (lit< tt) (subst (λ (x : ℕ). 1 ≤ x) (sym (mul-one (suc m))) (zero-lt-suc m))))
 
 -- the rule sees only the values
-has-size : (x : Float) (s : Bool) (a c : ℕ) → HasValue x s a c → T (finite x)
-has-size nan s a c h = absurd h
-has-size (inf t) s a c h = absurd h
-has-size (fin t m e) s a c h = tt
+has-value : (x : Float) (s : Bool) (a c : ℕ) → HasValue x s a c → T (finite x)
+has-value nan s a c h = absurd h
+has-value (inf t) s a c h = absurd h
+has-value (fin t m e) s a c h = tt
 
 number-finite : (n : ℤ) → T (isFace n) → T (finite (ofInt binary32 n))
 unfolding ofInt
-number-finite (pos m) t = has-size (round binary32 false m 1) false m 1 (round-whole binary32 false m (le-trans (leb→le m 6 (and-r (leb 1 m) (leb m 6) t)) (lit≤ tt)))
-number-finite (negsuc m) t = has-size (round binary32 true (suc m) 1) true (suc m) 1 (round-whole binary32 true (suc m) (le-trans (leb→le (suc m) 6 (and-r (leb 1 (suc m)) (leb (suc m) 6) t)) (lit≤ tt)))
+number-finite (pos m) t = has-value (round binary32 false m 1) false m 1 (round-whole binary32 false m (le-trans (leb→le m 6 (and-r (leb 1 m) (leb m 6) t)) (lit≤ tt)))
+number-finite (negsuc m) t = has-value (round binary32 true (suc m) 1) true (suc m) 1 (round-whole binary32 true (suc m) (le-trans (leb→le (suc m) 6 (and-r (leb 1 (suc m)) (leb (suc m) 6) t)) (lit≤ tt)))
 
 pub rule-same : (n : ℤ) → T (isFace n) → (a b c d a' b' c' d' : Float) → Same a a' → Same b b' → Same c c' → Same d d' → rule f32 n a b c d ≡ rule f32 n a' b' c' d'
 unfolding rule
@@ -190,13 +172,13 @@ by-true : (p : Bool) → p ≡ Bool·beq p true
 by-true true = refl
 by-true false = refl
 
-module _ (n : ℤ) (t : T (isFace n)) (a b c d : Float) (s : Square a b c d) where
+module _ (n : ℤ) (t : T (isFace n)) (a b c d : Float) {s : Bool} (q : Square s a b c d) where
   -- (face × a) × val keeps clear of zero where val does
   clear : T (le epsilon (magnitude (val a b c d))) → le (fin false 0 (pos 0)) (mul binary32 (mul binary32 (ofInt binary32 n) a) (val a b c d)) ≡ Bool·beq (isPositive n) (not (unlike (sgn a) (sgn (val a b c d))))
   clear h =
       let N = ofInt binary32 n in
       let v = val a b c d in
-      let first : T (le (mul binary32 one least) (mul binary32 (magnitude N) (magnitude a))) = le-mul one least (magnitude N) (magnitude a) tt ends first-ends (number n t .1) (s .size-a) in
+      let first : T (le (mul binary32 one least) (mul binary32 (magnitude N) (magnitude a))) = le-mul one least (magnitude N) (magnitude a) tt least-positive first-ends (number n t .1) (low-end (magnitude a) (q .at-a .size)) in
       let na : T (le (mul binary32 one least) (magnitude (mul binary32 N a))) = subst (λ (x : Float). T (le (mul binary32 one least) x)) (sym (magnitude-mul binary32 N a)) first in
       let both : T (le (mul binary32 (mul binary32 one least) epsilon) (mul binary32 (magnitude (mul binary32 N a)) (magnitude v))) = le-mul (mul binary32 one least) epsilon (magnitude (mul binary32 N a)) (magnitude v) first-ends tt both-ends na h in
       let above-na = above-of-le (mul binary32 one least) (magnitude (mul binary32 N a)) first-ends na in
@@ -206,9 +188,6 @@ module _ (n : ℤ) (t : T (isFace n)) (a b c d : Float) (s : Square a b c d) whe
       ∙ ap (λ (x : Bool). not (unlike x (sgn v))) (sgn-mul binary32 N a (above-real (mul binary32 N a) above-na) ∙ ap (λ (x : Bool). unlike x (sgn a)) (number n t .0))
       ∙ turn (isPositive n) (sgn a) (sgn v)
     where
-      ends : T (positive least)
-      ends = unfold ofBits in tt
-
       first-ends : T (positive (mul binary32 one least))
       first-ends = unfold ofBits mul in tt
 
@@ -222,7 +201,7 @@ module _ (n : ℤ) (t : T (isFace n)) (a b c d : Float) (s : Square a b c d) whe
       go : (x : Bool) → tied (val a b c d) ≡ x → cond x (isPositive n) (le (fin false 0 (pos 0)) (mul binary32 (mul binary32 (ofInt binary32 n) a) (val a b c d)))
           ≡ Bool·beq (isPositive n) (cond x true (not (unlike (sgn a) (sgn (val a b c d)))))
       go true e = by-true (isPositive n)
-      go false e = clear (not-less epsilon (val a b c d) tt (sub-swapped (mul binary32 a c) (mul binary32 b d) (s .left) (s .right) .real) e)
+      go false e = clear (not-less epsilon (val a b c d) tt (sub-swapped (mul binary32 a c) (mul binary32 b d) (product (q .at-a) (q .at-c)) (product (q .at-b) (q .at-d)) .real) e)
 
 -- ---- from the other side
 unlike-move : (s t : Bool) → unlike s (not t) ≡ unlike (not s) t
@@ -234,13 +213,16 @@ unlike-move false false = refl
 zero-tied : tied (fin false 0 (pos 0)) ≡ true
 zero-tied = unfold lt in refl
 
-module _ (a b c d : Float) (s : Square a b c d) where
+module _ (a b c d : Float) {s : Bool} (q : Square s a b c d) where
+  opposed : sgn d ≡ not (sgn a)
+  opposed = q .at-d .sign ∙ ap not (sym (q .at-a .sign))
+
   -- with w for the other side's difference
   by-swap : (v w : Float) → Swapped v w → (t : Bool) → tied v ≡ t → cond t true (not (unlike (sgn a) (sgn v))) ≡ cond t true (not (unlike (sgn d) (sgn w)))
   by-swap v w k true e = refl
   by-swap v w k false e =
       elim (k .against) [
-        | inl g ↦ ap not (ap (unlike (sgn a)) g ∙ unlike-move (sgn a) (sgn w) ∙ ap (λ (x : Bool). unlike x (sgn w)) (sym (s .opposed)))
+        | inl g ↦ ap not (ap (unlike (sgn a)) g ∙ unlike-move (sgn a) (sgn w) ∙ ap (λ (x : Bool). unlike x (sgn w)) (sym opposed))
         | inr z ↦ absurd (true≢false (sym zero-tied ∙ ap (λ (x : Float). lt x epsilon) (sym z) ∙ e))
       ]
 
@@ -249,7 +231,7 @@ module _ (a b c d : Float) (s : Square a b c d) where
   kept-turned =
       let v = val a b c d in
       let w = sub binary32 (mul binary32 b d) (mul binary32 a c) in
-      let k = sub-swapped (mul binary32 a c) (mul binary32 b d) (s .left) (s .right) in
+      let k = sub-swapped (mul binary32 a c) (mul binary32 b d) (product (q .at-a) (q .at-c)) (product (q .at-b) (q .at-d)) in
       let there : val d c b a ≡ w = λ i. sub binary32 (mul-comm-float binary32 d b i) (mul-comm-float binary32 c a i) in
       by-swap v w k (tied v) refl
       ∙ ap (λ (t : Bool). cond t true (not (unlike (sgn d) (sgn w)))) (ap (λ (x : Float). lt x epsilon) (k .alike))

@@ -35,7 +35,7 @@ at-nan n a b c d e = rw (e, times-nan (mul binary32 (ofInt binary32 n) a))
 
 pub symmetric : (n : ℤ) (a b c d : Float) → T (isFace n) → T (alternate a b c d) → rule f32 n a b c d ≡ rule f32 n d c b a
 symmetric n a b c d f t =
-    let s = square a b c d t in
+    let s = square a b c d t .1 in
     decided n f a b c d s ∙ ap (Bool·beq (isPositive n)) (kept-turned a b c d s) ∙ sym (decided n f d c b a (turned s))
 
 -- ---- the number with the other sign
@@ -52,7 +52,7 @@ other-face (negsuc m) t = (t, lt-ltb 0 (suc m) (zero-lt-suc m))
 
 pub opposed : (n : ℤ) (a b c d : Float) → T (isFace n) → T (alternate a b c d) → rule f32 n a b c d ≡ not (rule f32 (negℤ n) a b c d)
 opposed n a b c d f t =
-    let s = square a b c d t in
+    let s = square a b c d t .1 in
     let o = other-face n f in
     decided n f a b c d s ∙ beq-not (isPositive n) (kept a b c d) ∙ ap (λ (p : Bool). not (Bool·beq p (kept a b c d))) (sym (o .1)) ∙ ap not (sym (decided (negℤ n) (o .0) a b c d s))
 

@@ -20,9 +20,13 @@ most = fin false 1 (pos 63)
 unfoldable pub inRange : Float → Bool
 inRange x = le least x && le x most
 
+-- a and c are above zero and b and d below, each magnitude in the range
+unfoldable pub upAndDown : Float → Float → Float → Float → Bool
+upAndDown a b c d = inRange a && inRange (neg b) && inRange c && inRange (neg d)
+
 -- term 3's premise: the signs alternate, a and c have one sign, b and d the other, and each magnitude is in the range
 unfoldable pub alternate : Float → Float → Float → Float → Bool
-alternate a b c d = (inRange a && inRange (neg b) && inRange c && inRange (neg d)) || (inRange (neg a) && inRange b && inRange (neg c) && inRange d)
+alternate a b c d = upAndDown a b c d || upAndDown b a d c
 
 -- r is the answer for the face number n and the values a, b, c, d
 pub record FaceLaws (n : ℤ) (a b c d : Float) (r : Bool) : Type 0 where

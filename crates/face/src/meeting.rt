@@ -2,7 +2,7 @@
 ghost use mathlib.Core.Path.{_≡_};
 ghost use mathlib.Core.Bool.{_&&_};
 ghost use Rattle.face.specs.Columns.{placeOf};
-ghost use Rattle.face.specs.Laws.{inRange, alternate};
+ghost use Rattle.face.specs.Laws.{inRange, upAndDown, alternate};
 ghost use Rattle.face.specs.Meeting.{meet, alternateAt, said, comparedOf, AgreeBySign};
 use crate::Square;
 use crate::face_answer;
@@ -27,12 +27,16 @@ fn ranged(x: f32) -> bool
     (0.000001 <= x) & (x <= 9223372036854775808.0)
 }
 
+fn up_and_down(a: f32, b: f32, c: f32, d: f32) -> bool
+    ensures { λ r. ⌜ r ≡ upAndDown a b c d ⌝ }
+{
+    ranged(a) & ranged(-b) & ranged(c) & ranged(-d)
+}
+
 fn alternates(s: Square) -> bool
     ensures { λ r. ⌜ r ≡ alternate (s .a) (s .b) (s .c) (s .d) ⌝ }
 {
-    let up = ranged(s.a) & ranged(-s.b) & ranged(s.c) & ranged(-s.d);
-    let down = ranged(-s.a) & ranged(s.b) & ranged(-s.c) & ranged(s.d);
-    up | down
+    up_and_down(s.a, s.b, s.c, s.d) | up_and_down(s.b, s.a, s.d, s.c)
 }
 
 // Whether face `n` of k, one of 1, 2 and 5, meets face `p` of l with equal values at paired corners.

@@ -1,0 +1,26 @@
+-- `meeting::up_and_down` is `upAndDown`.
+use borrow.Author.Needs.{needs}
+use Rattle.face.specs.Laws.{upAndDown}
+use Rattle.face.proofs.meeting.up_and_down.Statement.{statement}
+use Rattle.face.proofs.meeting.up_and_down.Tie as tie
+
+ranged-requires : tie.Need-ranged-requires
+ranged-requires c κs = search needs
+
+ranged-requires-2 : tie.Need-ranged-requires-2
+ranged-requires-2 c κs = search needs
+
+ranged-requires-3 : tie.Need-ranged-requires-3
+ranged-requires-3 c κs = search needs
+
+ranged-requires-4 : tie.Need-ranged-requires-4
+ranged-requires-4 c κs = search needs
+
+returns : tie.Need-returns
+unfolding upAndDown
+returns c = cc
+
+pub up-and-down-spec : {M : Type 1} → statement M
+up-and-down-spec =
+    tie.close
+    (tie.spec ranged-requires ranged-requires-2 ranged-requires-3 ranged-requires-4 returns)
