@@ -1,7 +1,7 @@
 -- Term 3, `FacesAgree`: whatever stands off the face where two cubes meet, their answers are equal exactly when the face numbers' signs are. Assumes nothing.
-use mathlib.Core.Path.{_≡_, refl, sym, ap, _∙_}
+use mathlib.Core.Path.{_≡_, refl, sym, _∙_}
 use mathlib.Core.Logic.{_⊎_, inl, inr}
-use mathlib.Core.Bool.{Bool, true, false, _&&_, _||_, Bool·beq, true≢false}
+use mathlib.Core.Bool.{Bool, true, false, _&&_, _||_, Bool·beq}
 use mathlib.Core.List.{List, [], _∷_}
 use Prim.Native.Nat.{ℕ}
 use lib.Dec.{T, leb, eqb, eqb→eq}
@@ -10,7 +10,7 @@ use lib.ListN.{getD}
 use lib.Ieee.{Float, eq}
 use lib.Ieee.Fits.{and-l, and-r}
 use Rattle.binary32.specs.Numbers.{f32}
-use Rattle.binary32.proofs.Bools.{either, all-four}
+use Rattle.binary32.proofs.Bools.{either, all-four, beq-true}
 use Rattle.binary32.proofs.Same.{Same, eq→same}
 use Rattle.cube.specs.declared.Cube.{Cube}
 use Rattle.cube.specs.Corners.{cornerOf}
@@ -18,13 +18,6 @@ use Rattle.face.specs.Face.{faceCorners, faceCorner, rule, faceBy, faceO
 use Rattle.face.specs.Laws.{alternate}
 use Rattle.face.specs.Meeting.{valuesAt, sameValues, meetAt, others-of-1, others-of-2, others-of-5, meet, alternateAt, joined, FacesAgree}
 use Rattle.face.proofs.Decision.{Square, square, has-size, turned, rule-same, kept, decided, kept-turned}
-
-beq-refl : (p : Bool) → Bool·beq p p ≡ true
-beq-refl true = refl
-beq-refl false = refl
-
-beq-of : (p q : Bool) → p ≡ q → Bool·beq p q ≡ true
-beq-of p q e = ap (Bool·beq p) (sym e) ∙ beq-refl p
 
 -- ---- two answers by one Bool of the values
 cancel : (s p q : Bool) → Bool·beq (Bool·beq p s) (Bool·beq q s) ≡ Bool·beq p q
@@ -143,11 +136,8 @@ module _ (k : Cube) (n : ℤ) (l : Cube) (p : ℤ) where
       ]
 
 -- ---- as it is stated
-like : (p q r s : Bool) → Bool·beq p q ≡ Bool·beq r s → (p ≡ q) → (r ≡ s)
-like p q true true h e = refl
-like p q true false h e = absurd (true≢false (sym (beq-of p q e) ∙ h))
-like p q false true h e = absurd (true≢false (sym (beq-of p q e) ∙ h))
-like p q false false h e = refl
+like : (p q r s : Bool) → Bool·beq p q ≡ Bool·beq r s → p ≡ q → r ≡ s
+like p q r s h e = beq-true r s .0 (sym h ∙ beq-true p q .1 e)
 
 pub faces-agree : FacesAgree
 faces-agree k n l p t =

@@ -1,6 +1,6 @@
 -- The ways out of the code of the comparison: of `meets`, of `joins` and of `compare_faces`, to which term 3 is brought. Assumes nothing.
 use mathlib.Core.Path.{_≡_, refl, sym, ap, _∙_, subst}
-use mathlib.Core.Logic.{inl, inr}
+use mathlib.Core.Logic.{_↔_, inl, inr}
 use mathlib.Core.Bool.{Bool, true, false, not, _&&_, _||_, Bool·beq, and-true, and-assoc, or-false}
 use Prim.Native.Nat.{ℕ}
 use borrow.Author.Tests.{ne-eqb, not-true, not-false}
@@ -9,7 +9,7 @@ use lib.IntN.{ℤ}
 use lib.Ieee.Bits.{is-true}
 use lib.Ieee.Fits.{and-l, and-r}
 use lib.Ieee.{eq}
-use Rattle.binary32.proofs.Bools.{either}
+use Rattle.binary32.proofs.Bools.{either, beq-true}
 use Rattle.cube.specs.declared.Cube.{Cube}
 use Rattle.cube.specs.declared.Refusal.the-variants.{NoFace, NotFinite}
 use Rattle.cube.specs.Corners.{corners, valueAt, cornerOf, allFinite}
@@ -19,7 +19,7 @@ use Rattle.face.specs.Face.{faceCorners, faceOf, isFace, isPositive}
 use Rattle.face.specs.Laws.{alternate}
 use Rattle.face.specs.declared.meeting.Compared.the-variants.{Equal, Apart, Refused}
 use Rattle.face.specs.Meeting.{sameValues, meetAt, meet, alternateAt, joined, equal, apart, refused, comparedOf, AgreeBySign}
-use Rattle.face.proofs.Agreement.{by-signs}
+use Rattle.face.proofs.Agreement.{faces-agree}
 use Rattle.face.proofs.Places.{face-place, face-size}
 
 module _ (k : Cube) (n : ℕ) (l : Cube) (p : ℕ) where
@@ -47,23 +47,23 @@ premises k n l p i j m t s ei ej em es et =
     ∙ ap (λ (x : Bool). meet k (placeOf n) l (placeOf p) && x) (et ∙ ap (λ (x : Square). alternate (x .a) (x .b) (x .c) (x .d)) es)
 
 -- ---- term 3, whichever cube has the first face
-beq-comm : (x y : Bool) → Bool·beq x y ≡ Bool·beq y x
-beq-comm true true = refl
-beq-comm true false = refl
-beq-comm false true = refl
-beq-comm false false = refl
-
-agree : (k : Cube) (n : ℤ) (l : Cube) (p : ℤ) → T (joined k n l p || joined l p k n) → Bool·beq (faceOf k n) (faceOf l p) ≡ Bool·beq (isPositive n) (isPositive p)
+agree : (k : Cube) (n : ℤ) (l : Cube) (p : ℤ) → T (joined k n l p || joined l p k n) → (faceOf k n ≡ faceOf l p) ↔ (isPositive n ≡ isPositive p)
 agree k n l p t =
     elim (either (joined k n l p) (joined l p k n) t) [
-      | inl u ↦ by-signs k n l p u
-      | inr u ↦ beq-comm (faceOf k n) (faceOf l p) ∙ by-signs l p k n u ∙ beq-comm (isPositive p) (isPositive n)
+      | inl u ↦ faces-agree k n l p u
+      | inr u ↦ (λ e. sym (faces-agree l p k n u .0 (sym e)), λ e. sym (faces-agree l p k n u .1 (sym e)))
     ]
 
--- ---- the four ways out of `compare_faces`
+-- of a result that compares the answers r and s
 same-of : (b c : Bool) → Equal c ≡ Equal b → b ≡ c
 same-of b c e = cc
 
+by-comparison : (k : Cube) (n : ℤ) (l : Cube) (p : ℤ) (r s : Bool) → T (joined k n l p || joined l p k n) → r ≡ faceOf k n → s ≡ faceOf l p → AgreeBySign n p (Equal (Bool·beq r s))
+by-comparison k n l p r s t er es b e =
+    let c : b ≡ Bool·beq (faceOf k n) (faceOf l p) = same-of b (Bool·beq r s) e ∙ (λ i. Bool·beq (er i) (es i)) in
+    (λ h. agree k n l p t .0 (beq-true (faceOf k n) (faceOf l p) .0 (sym c ∙ h)), λ h. c ∙ beq-true (faceOf k n) (faceOf l p) .1 (agree k n l p t .1 h))
+
+-- ---- the four ways out of `compare_faces`
 not-or : (x y : Bool) → not x && not y ≡ not (x || y)
 not-or true y = refl
 not-or false y = refl
@@ -74,12 +74,12 @@ module _ (k : Cube) (n : ℤ) (l : Cube) (p : ℤ) (i j : ℕ) (ei : i ≡ place
 
   pub no-face : eqb i 0 || eqb j 0 ≡ true → (refused 4 ≡ comparedOf k n l p) × AgreeBySign n p (Refused NoFace)
   unfolding comparedOf
-  no-face h = (rw (faces, h), λ b e. cc)
+  no-face h = (rw (faces, h), λ b e. (λ h. cc, λ h. cc))
 
   module _ (h : eqb i 0 || eqb j 0 ≡ false) (x y : Bool) (ex : x ≡ allFinite k) (ey : y ≡ allFinite l) where
     pub not-finite : not (x && y) ≡ true → (refused 3 ≡ comparedOf k n l p) × AgreeBySign n p (Refused NotFinite)
     unfolding comparedOf
-    not-finite g = (rw (faces, h, ← ex, ← ey, not-true (x && y) g), λ b e. cc)
+    not-finite g = (rw (faces, h, ← ex, ← ey, not-true (x && y) g), λ b e. (λ h. cc, λ h. cc))
 
     module _ (g : not (x && y) ≡ false) (u v : Bool) (eu : u ≡ meet k (placeOf n) l (placeOf p) && alternateAt k n) (ev : v ≡ meet l (placeOf p) k (placeOf n) && alternateAt l p) where
       both : isFace n && isFace p ≡ true
@@ -97,10 +97,10 @@ module _ (k : Cube) (n : ℤ) (l : Cube) (p : ℤ) (i j : ℕ) (ei : i ≡ place
 
       pub apart-told : u || v ≡ false → (apart ≡ comparedOf k n l p) × AgreeBySign n p Apart
       unfolding comparedOf
-      apart-told w = (rw (both, finite, sym as-joined ∙ w), λ b e. cc)
+      apart-told w = (rw (both, finite, sym as-joined ∙ w), λ b e. (λ h. cc, λ h. cc))
 
       pub equal-told : u || v ≡ true → (r s : Bool) → r ≡ faceOf k n → s ≡ faceOf l p → (equal (Bool·beq r s) ≡ comparedOf k n l p) × AgreeBySign n p (Equal (Bool·beq r s))
       unfolding comparedOf
       equal-told w r s er es =
           let t : T (joined k n l p || joined l p k n) = subst T (sym (sym as-joined ∙ w)) tt in
-          (rw (both, finite, sym as-joined ∙ w, er, es), λ b e. same-of b (Bool·beq r s) e ∙ (λ o. Bool·beq (er o) (es o)) ∙ agree k n l p t)
+          (rw (both, finite, sym as-joined ∙ w, er, es), by-comparison k n l p r s t er es)

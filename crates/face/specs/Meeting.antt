@@ -79,6 +79,6 @@ comparedOf k n l p =
     (refused 3))
     (refused 4)
 
--- term 3 of a comparison's result
+-- term 3 of a comparison's result: the answers are equal exactly when the two numbers have the same sign
 abbrev pub AgreeBySign : ℤ → ℤ → Compared → Type 0
-AgreeBySign n p r = (b : Bool) → r ≡ Equal b → b ≡ Bool·beq (isPositive n) (isPositive p)
+AgreeBySign n p r = (b : Bool) → r ≡ Equal b → (b ≡ true) ↔ (isPositive n ≡ isPositive p)
