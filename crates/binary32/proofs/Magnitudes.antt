@@ -174,26 +174,28 @@ pub record Swapped (v w : Float) : Type 0 where
   pub against : (sgn v ≡ not (sgn w)) ⊎ (magnitude v ≡ fin false 0 (pos 0))
   pub real : isNan v ≡ false
 
+opposite : (s : Bool) (n c : ℕ) → Swapped (round binary32 s n c) (round binary32 (not s) n c)
+opposite s n c =
+    let here = round-told binary32 s n c in
+    let there = round-told binary32 (not s) n c in
+    record { alike = here .0 ∙ sym (there .0); against = inl (here .1 ∙ not-not s ∙ ap not (sym (there .1))); real = here .2 }
+  where
+    not-not : (s : Bool) → s ≡ not (not s)
+    not-not true = refl
+    not-not false = refl
+
 module _ (a b c : ℕ) (C : 0 < c) where
   none-between : b ≤ a → a ≤ b → (a - b ≡ 0) × (b - a ≡ 0)
   none-between h g = omega arith
 
+  not-both : a < b → b < a → ⊥
+  not-both x y = omega arith
+
   differ : (p q : Bool) → (T p → a < b) → (T (not p) → b ≤ a) → (T q → b < a) → (T (not q) → a ≤ b)
       → Swapped (cond p (round binary32 true (b - a) c) (round binary32 false (a - b) c)) (cond q (round binary32 true (a - b) c) (round binary32 false (b - a) c))
-  differ true true h h' g g' = absurd (clash (h tt) (g tt))
-    where
-      clash : a < b → b < a → ⊥
-      clash x y = omega arith
-  differ true false h h' g g' = record {
-    alike = round-told binary32 true (b - a) c .0 ∙ sym (round-told binary32 false (b - a) c .0);
-    against = inl (round-told binary32 true (b - a) c .1 ∙ ap not (sym (round-told binary32 false (b - a) c .1)));
-    real = round-told binary32 true (b - a) c .2;
-  }
-  differ false true h h' g g' = record {
-    alike = round-told binary32 false (a - b) c .0 ∙ sym (round-told binary32 true (a - b) c .0);
-    against = inl (round-told binary32 false (a - b) c .1 ∙ ap not (sym (round-told binary32 true (a - b) c .1)));
-    real = round-told binary32 false (a - b) c .2;
-  }
+  differ true true h h' g g' = absurd (not-both (h tt) (g tt))
+  differ true false h h' g g' = opposite true (b - a) c
+  differ false true h h' g g' = opposite false (a - b) c
   differ false false h h' g g' =
       let z = none-between (h' tt) (g' tt) in
       let v : round binary32 false (a - b) c ≡ fin false 0 (pos 0) = ap (λ (n : ℕ). round binary32 false n c) (z .0) ∙ round-nought false c C in

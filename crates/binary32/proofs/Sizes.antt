@@ -9,9 +9,6 @@ use lib.Ieee.Digits.{size-lt, size-le}
 pub size-above : (n j : ℕ) → 2 ^ j ≤ n → j < size n
 size-above n j h = lt-of-not-le λ (g : size n ≤ j). not-le-of-lt (lt-of-lt-of-le (size-lt n) (pow-mono g)) h
 
-pub size-is : (n j : ℕ) → 2 ^ j ≤ n → n < 2 ^ suc j → size n ≡ suc j
-size-is n j h k = le-antisymm (size-le n (suc j) k) (size-above n j h)
-
 -- a number between two powers, times a power
 pub shifted-ge : (q j k : ℕ) → 2 ^ j ≤ q → 2 ^ (j + k) ≤ q * 2 ^ k
 shifted-ge q j k h = subst (λ (z : ℕ). z ≤ q * 2 ^ k) (sym (pow-add 2 j k)) (mul-le-mul-right (2 ^ k) h)

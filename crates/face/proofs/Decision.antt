@@ -2,9 +2,9 @@
 -- the values, and the values read from the other side, d, c, b, a, have the same Bool. Assumes nothing.
 use mathlib.Core.Path.{_≡_, refl, sym, ap, _∙_, subst}
 use mathlib.Core.Logic.{inl, inr}
-use mathlib.Core.Bool.{Bool, true, false, not, cond, Bool·beq, true≢false}
+use mathlib.Core.Bool.{Bool, true, false, not, _&&_, cond, Bool·beq, true≢false}
 use Prim.Native.Nat.{ℕ, suc, _≤_}
-use native.Mathlib.Nat.{zero-lt-suc, mul-one, le-trans}
+use native.Mathlib.Nat.{mul-one, le-trans}
 use borrow.Author.Tests.{lt-ltb}
 use lib.Dec.{T, leb, leb→le, lit<, lit≤}
 use lib.IntN.{ℤ, pos, negsuc}
@@ -129,34 +129,40 @@ tied v = lt (magnitude v) epsilon
 pub kept : Float → Float → Float → Float → Bool
 kept a b c d = cond (tied (val a b c d)) true (not (unlike (sgn a) (sgn (val a b c d))))
 
--- a face number as a float: its sign, and that it is 1 at least
-number : (n : ℤ) → T (isFace n) → (sgn (ofInt binary32 n) ≡ not (isPositive n)) × T (le one (magnitude (ofInt binary32 n)))
-unfolding ofInt
-number (pos m) t =
-    let h = leb→le 1 m (and-l (leb 1 m) (leb m 6) t) in
-    let r = round-told binary32 false m 1 in
-    (r .1 ∙ ap not (sym (lt-ltb 0 m h)), subst (λ (x : Float). T (le one x)) (sym (r .0)) (unfold round in round-mono binary32 1 1 m 1 (lit< tt) (lit< tt) (subst (λ (x : ℕ). 1 ≤ x) (sym (mul-one m)) h)))
-number (negsuc m) t =
-    let r = round-told binary32 true (suc m) 1 in
-    (r .1, subst (λ (x : Float). T (le one x)) (sym (r .0)) (unfold round in round-mono binary32 1 1 (suc m) 1 (lit< tt) (lit< tt) (subst (λ (x : ℕ). 1 ≤ x) (sym (mul-one (suc m))) (zero-lt-suc m))))
+-- a face number as a float: its sign, that it is 1 at least, and that it is finite
+pub record Number (x : Float) (s : Bool) : Type 0 where
+  pub sign : sgn x ≡ s
+  pub one-up : T (le one (magnitude x))
+  pub whole : T (finite x)
 
--- the rule sees only the values
 has-value : (x : Float) (s : Bool) (a c : ℕ) → HasValue x s a c → T (finite x)
 has-value nan s a c h = absurd h
 has-value (inf t) s a c h = absurd h
 has-value (fin t m e) s a c h = tt
 
-number-finite : (n : ℤ) → T (isFace n) → T (finite (ofInt binary32 n))
-unfolding ofInt
-number-finite (pos m) t = has-value (round binary32 false m 1) false m 1 (round-whole binary32 false m (le-trans (leb→le m 6 (and-r (leb 1 m) (leb m 6) t)) (lit≤ tt)))
-number-finite (negsuc m) t = has-value (round binary32 true (suc m) 1) true (suc m) 1 (round-whole binary32 true (suc m) (le-trans (leb→le (suc m) 6 (and-r (leb 1 (suc m)) (leb (suc m) 6) t)) (lit≤ tt)))
+rounded : (s : Bool) (m : ℕ) → T (leb 1 m && leb m 6) → Number (round binary32 s m 1) s
+rounded s m t =
+    let l = leb→le 1 m (and-l (leb 1 m) (leb m 6) t) in
+    let h = leb→le m 6 (and-r (leb 1 m) (leb m 6) t) in
+    let r = round-told binary32 s m 1 in
+    record {
+      sign = r .1;
+      one-up = subst (λ (x : Float). T (le one x)) (sym (r .0)) (unfold round in round-mono binary32 1 1 m 1 (lit< tt) (lit< tt) (subst (λ (x : ℕ). 1 ≤ x) (sym (mul-one m)) l));
+      whole = has-value (round binary32 s m 1) s m 1 (round-whole binary32 s m (le-trans h (lit≤ tt)));
+    }
 
+number : (n : ℤ) → T (isFace n) → Number (ofInt binary32 n) (not (isPositive n))
+unfolding ofInt
+number (pos m) t = subst (Number (round binary32 false m 1)) (ap not (sym (lt-ltb 0 m (leb→le 1 m (and-l (leb 1 m) (leb m 6) t))))) (rounded false m t)
+number (negsuc m) t = rounded true (suc m) t
+
+-- the rule sees only the values
 pub rule-same : (n : ℤ) → T (isFace n) → (a b c d a' b' c' d' : Float) → Same a a' → Same b b' → Same c c' → Same d d' → rule f32 n a b c d ≡ rule f32 n a' b' c' d'
 unfolding rule
 rule-same n t a b c d a' b' c' d' p q r s =
     let N = ofInt binary32 n in
     let v : sub binary32 (mul binary32 a c) (mul binary32 b d) ≡ sub binary32 (mul binary32 a' c') (mul binary32 b' d') = λ i. sub binary32 (mul-same binary32 a a' c c' p r i) (mul-same binary32 b b' d d' q s i) in
-    λ i. cond (lt (magnitude (v i)) epsilon) (isPositive n) (le (fin false 0 (pos 0)) (mul binary32 (mul-same binary32 N N a a' (same-refl N (number-finite n t)) p i) (v i)))
+    λ i. cond (lt (magnitude (v i)) epsilon) (isPositive n) (le (fin false 0 (pos 0)) (mul binary32 (mul-same binary32 N N a a' (same-refl N (number n t .whole)) p i) (v i)))
 
 turn : (p s t : Bool) → not (unlike (unlike (not p) s) t) ≡ Bool·beq p (not (unlike s t))
 turn true true true = refl
@@ -178,14 +184,14 @@ module _ (n : ℤ) (t : T (isFace n)) (a b c d : Float) {s : Bool} (q : Square s
   clear h =
       let N = ofInt binary32 n in
       let v = val a b c d in
-      let first : T (le (mul binary32 one least) (mul binary32 (magnitude N) (magnitude a))) = le-mul one least (magnitude N) (magnitude a) tt least-positive first-ends (number n t .1) (low-end (magnitude a) (q .at-a .size)) in
+      let first : T (le (mul binary32 one least) (mul binary32 (magnitude N) (magnitude a))) = le-mul one least (magnitude N) (magnitude a) tt least-positive first-ends (number n t .one-up) (low-end (magnitude a) (q .at-a .size)) in
       let na : T (le (mul binary32 one least) (magnitude (mul binary32 N a))) = subst (λ (x : Float). T (le (mul binary32 one least) x)) (sym (magnitude-mul binary32 N a)) first in
       let both : T (le (mul binary32 (mul binary32 one least) epsilon) (mul binary32 (magnitude (mul binary32 N a)) (magnitude v))) = le-mul (mul binary32 one least) epsilon (magnitude (mul binary32 N a)) (magnitude v) first-ends tt both-ends na h in
       let above-na = above-of-le (mul binary32 one least) (magnitude (mul binary32 N a)) first-ends na in
       let above-all = subst (λ (x : Float). T (above x)) (sym (magnitude-mul binary32 (mul binary32 N a) v)) (above-of-le (mul binary32 (mul binary32 one least) epsilon) (mul binary32 (magnitude (mul binary32 N a)) (magnitude v)) both-ends both) in
       sign-test (mul binary32 (mul binary32 N a) v) above-all
       ∙ ap not (sgn-mul binary32 (mul binary32 N a) v (above-real (mul binary32 (mul binary32 N a) v) above-all))
-      ∙ ap (λ (x : Bool). not (unlike x (sgn v))) (sgn-mul binary32 N a (above-real (mul binary32 N a) above-na) ∙ ap (λ (x : Bool). unlike x (sgn a)) (number n t .0))
+      ∙ ap (λ (x : Bool). not (unlike x (sgn v))) (sgn-mul binary32 N a (above-real (mul binary32 N a) above-na) ∙ ap (λ (x : Bool). unlike x (sgn a)) (number n t .sign))
       ∙ turn (isPositive n) (sgn a) (sgn v)
     where
       first-ends : T (positive (mul binary32 one least))

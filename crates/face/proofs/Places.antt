@@ -5,7 +5,7 @@ use Prim.Native.Nat.{ℕ, zero, suc, _+_, _≤_, _<_}
 use native.Mathlib.Numerals.{add-one}
 use native.Mathlib.Omega.{arith}
 use borrow.Author.Tests.{le-leb, lt-leb, ne-eqb}
-use lib.IntN.{ℤ, pos, negsuc, natAbs}
+use lib.IntN.{ℤ, natAbs}
 use lib.Ieee.Fits.{and-r}
 use lib.Dec.{T, leb, eqb, leb·suc-suc, leb·zero, eqb·suc-zero}
 use mir.Syntax.{w8}
@@ -20,27 +20,24 @@ use Rattle.face.specs.Face.{faceOf, isFace, answer, refused, testFaceOf}
 use Rattle.face.specs.Columns.{placeOf}
 
 module _ (z : ℤ) (r : Split) (k : ℕ) (f : SFits w8 z) (e : splitValue r ≡ toZ w8 (ofZ w8 z)) where
-  is-up : r ≡ NotBelow k → z ≡ pos k
-  is-up s = sym (toZ-ofZ w8 z f) ∙ sym e ∙ ap splitValue s
-
-  is-down : r ≡ Below k → z ≡ negsuc k
-  is-down s = sym (toZ-ofZ w8 z f) ∙ sym e ∙ ap splitValue s
+  is : (v : Split) → r ≡ v → z ≡ splitValue v
+  is v s = sym (toZ-ofZ w8 z f) ∙ sym e ∙ ap splitValue s
 
   pub up-face : r ≡ NotBelow k → k ≤ 6 → k ≡ placeOf z
   unfolding placeOf
-  up-face s h = rw (is-up s, le-leb k 6 h)
+  up-face s h = rw (is (NotBelow k) s, le-leb k 6 h)
 
   pub up-none : r ≡ NotBelow k → 6 < k → 0 ≡ placeOf z
   unfolding placeOf
-  up-none s h = rw (is-up s, lt-leb k 6 h)
+  up-none s h = rw (is (NotBelow k) s, lt-leb k 6 h)
 
   pub down-face : r ≡ Below k → k < 6 → k + 1 ≡ placeOf z
   unfolding placeOf
-  down-face s h = rw (is-down s, le-leb (suc k) 6 h, add-one)
+  down-face s h = rw (is (Below k) s, le-leb (suc k) 6 h, add-one)
 
   pub down-none : r ≡ Below k → 6 ≤ k → 0 ≡ placeOf z
   unfolding placeOf
-  down-none s h = rw (is-down s, lt-leb (suc k) 6 (omega arith))
+  down-none s h = rw (is (Below k) s, lt-leb (suc k) 6 (omega arith))
 
 -- ---- a number is a face's exactly where its place is not 0
 face-by : (m : ℕ) (b : Bool) → leb 1 m && b ≡ not (eqb (cond b m 0) 0)

@@ -15,22 +15,17 @@ use mir.ValLaws.{toZ-ofZ}
 use Rattle.binary32.specs.Numbers.{magnitude, epsilon, f32}
 use Rattle.face.specs.Face.{rule}
 
-some : (a b : ℕ) → 0 < a → ltb 0 (a + b) ≡ true
-some a b h = lt-ltb 0 (a + b) (omega arith)
-
-some-right : (a b : ℕ) → 0 < b → ltb 0 (a + b) ≡ true
-some-right a b h = lt-ltb 0 (a + b) (omega arith)
-
-one-pos : (d : ℕ) → 0 < d → 0 < 1 * d
-one-pos d h = omega arith
+-- 1 over something, taken with anything else, is above zero
+some : (d n : ℕ) → 0 < d → (ltb 0 (1 * d + n) ≡ true) × (ltb 0 (n + 1 * d) ≡ true)
+some d n h = (lt-ltb 0 (1 * d + n) (omega arith), lt-ltb 0 (n + 1 * d) (omega arith))
 
 pub within-epsilon : (v : Float) → lt v epsilon && lt (neg epsilon) v ≡ lt (magnitude v) epsilon
 unfolding lt neg
 within-epsilon nan = refl
 within-epsilon (inf true) = refl
 within-epsilon (inf false) = refl
-within-epsilon (fin false m e) = rw (some (1 * down e) (m * up e * 8388608) (one-pos (down e) (down-pos e)), and-true)
-within-epsilon (fin true m e) = rw (some-right (m * up e * 8388608) (1 * down e) (one-pos (down e) (down-pos e)))
+within-epsilon (fin false m e) = rw (some (down e) (m * up e * 8388608) (down-pos e) .0, and-true)
+within-epsilon (fin true m e) = rw (some (down e) (m * up e * 8388608) (down-pos e) .1)
 
 -- ---- the two ways out of the rule, as code comes to them: 872415232 is the pattern of 2^-23
 module _ (z : ℤ) (a b c d : Float) (f : SFits w8 z) where

@@ -7,4 +7,5 @@ pub mod Patterns
 pub mod NearestValue
 pub mod RootFits
 pub mod NotBelowZero
+pub mod SpecialValues
 pub mod Controls

@@ -84,7 +84,7 @@ negative-fields (suc x) t h p =
     (λ l. root-below-zero (ofFields binary32 true (suc x) t) ((2 ^ 23 + t) * 2 ^ x) (mul-pos (omega arith) (pow-pos x)) (normal-value true x t l))
     (eq-or-lt-of-le h)
 
-nan-written : (b : ℕ) → rootOf (ofBits binary32 b) ≡ nan → 0x7fc0_0000 ≡ rootBits b
+pub nan-written : (b : ℕ) → rootOf (ofBits binary32 b) ≡ nan → 0x7fc0_0000 ≡ rootBits b
 unfolding rootBits toBits
 nan-written b e = ap (toBits binary32) (sym e)
 

@@ -9,6 +9,7 @@ ghost use Prim.Native.Nat.{_+_, _*_, _^_, _≤_, _<_};
 ghost use lib.Ieee.{binary32, toBits};
 ghost use Rattle.root.specs.Root.{wholeRoot, rootUnits, rootOf, rootBits};
 ghost use Rattle.root.specs.Nearest.{NearestRoot};
+ghost use Rattle.root.specs.Special.{SpecialRoots, SpecialBits};
 ghost use Rattle.root.specs.Search.{DigitsLeft};
 
 // The whole root of n, digit by digit: `root` has the leading digits, and `bits` are left to find,
@@ -68,7 +69,8 @@ fn positive(field: u32, digits: u32) -> u32
 
 // The pattern of the root of the value with the pattern `bits`.
 pub fn root_bits(bits: u32) -> u32
-    ensures { λ r. ⌜ r ≡ rootBits bits ⌝ }
+    ensures pattern { λ r. ⌜ r ≡ rootBits bits ⌝ }
+    ensures special { λ r. ⌜ SpecialBits bits r ⌝ }
 {
     if bits == 0 || bits == 0x8000_0000 || bits == 0x7f80_0000 {
         return bits;
@@ -83,6 +85,7 @@ pub fn root_bits(bits: u32) -> u32
 pub fn root(x: f32) -> f32
     ensures value { λ r. ⌜ r ≡ rootOf x ⌝ }
     ensures nearest { λ r. ⌜ NearestRoot x r ⌝ }
+    ensures special { λ r. ⌜ SpecialRoots x r ⌝ }
 {
     if 0.0 <= x {
         return float_of(root_bits(f32::to_bits(x)));
