@@ -1,12 +1,13 @@
 // The cube's types: document 01, 'Places and their forms', with its refusals by name.
 // `Cube` holds the eight corner values; `Face`, `EdgeNo` and `Corner` keep the three kinds of number
-// apart. Public: `take_apart`, `corner_in`, `values`, `value_at`, `all_finite`, `number`.
+// apart. Public: `take_apart`, `corner_in`, `values`, `value_at`, `value_in`, `all_finite`, `number`.
 ghost use mathlib.Core.Path.{_≡_};
 ghost use Rattle.cube.specs.Corners.{corners, digitOf, valueAt, allFinite};
 ghost use Rattle.cube.specs.Signs.{splitValue};
 ghost use Rattle.cube.specs.Refusals.{refusalNumber};
 
-// The corner values c0 to c7.
+// The corner values c0 to c7, one after the other as C has them.
+#[repr(C)]
 pub struct Cube {
     pub c0: f32,
     pub c1: f32,
@@ -95,6 +96,13 @@ pub fn value_at(values: &[f32; 8], k: Corner) -> f32
 {
     let i = k.0 as usize;
     if i < 8 { values[i] } else { 0.0 / 0.0 }
+}
+
+// The value at the corner that a column has at place `k`.
+pub fn value_in(values: &[f32; 8], column: u64, k: u32) -> f32
+    ensures { λ r. ⌜ r ≡ valueAt (now (values .entry)) (digitOf column k) ⌝ }
+{
+    value_at(values, corner_in(column, k))
 }
 
 // Whether no corner is NaN or infinite: x - x is 0 where x is finite, and a NaN elsewhere.

@@ -2,7 +2,6 @@
 // rule alone, for callers that have tested their cube and face.
 ghost use mathlib.Core.Path.{_≡_};
 ghost use Rattle.binary32.specs.Numbers.{f32};
-ghost use Rattle.cube.specs.Corners.{digitOf, valueAt};
 ghost use Rattle.face.specs.Face.{rule, faceOf, said, testFaceOf};
 ghost use Rattle.face.specs.Columns.{placeOf, squareOf};
 ghost use Rattle.face.specs.Laws.{FaceLawsAt};
@@ -59,13 +58,6 @@ fn join(face: Face, a: f32, b: f32, c: f32, d: f32) -> bool
     face.0 as f32 * a * val >= 0.0
 }
 
-// The value at the corner that a column has at place `k`.
-fn read(values: &[f32; 8], column: u64, k: u32) -> f32
-    ensures { λ r. ⌜ r ≡ valueAt (now (values .entry)) (digitOf column k) ⌝ }
-{
-    cube::value_at(values, cube::corner_in(column, k))
-}
-
 // The values at the face's corners.
 fn square_of(q: Cube, face: Face) -> Square
     ensures { λ r. ⌜ r ≡ squareOf q (face .0) ⌝ }
@@ -73,10 +65,10 @@ fn square_of(q: Cube, face: Face) -> Square
     let values = cube::values(q);
     let k = place(face);
     Square {
-        a: read(&values, A, k),
-        b: read(&values, B, k),
-        c: read(&values, C, k),
-        d: read(&values, D, k),
+        a: cube::value_in(&values, A, k),
+        b: cube::value_in(&values, B, k),
+        c: cube::value_in(&values, C, k),
+        d: cube::value_in(&values, D, k),
     }
 }
 

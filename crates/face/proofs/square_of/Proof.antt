@@ -10,24 +10,24 @@ values-requires c κs = search needs
 place-requires : tie.Need-place-requires
 place-requires c κs = search needs
 
-read-requires : tie.Need-read-requires
-read-requires c κs = search needs
+value-in-requires : tie.Need-value-in-requires
+value-in-requires c κs = search needs
 
-read-requires-2 : tie.Need-read-requires-2
-read-requires-2 c κs = search needs
+value-in-requires-2 : tie.Need-value-in-requires-2
+value-in-requires-2 c κs = search needs
 
-read-requires-3 : tie.Need-read-requires-3
-read-requires-3 c κs = search needs
+value-in-requires-3 : tie.Need-value-in-requires-3
+value-in-requires-3 c κs = search needs
 
-read-requires-4 : tie.Need-read-requires-4
-read-requires-4 c κs = search needs
+value-in-requires-4 : tie.Need-value-in-requires-4
+value-in-requires-4 c κs = search needs
 
 returns : tie.Need-returns
 returns c =
     let c2 = c .before .before .before .before in
     let c0 = c2 .before .before .before .before in
     squared _ _ _ _ (c0 .before .values .ensures) (c0 .place .ensures) _ _ _ _
-    (c2 .before .before .read .ensures) (c2 .read2 .ensures) (c .before .before .read3 .ensures) (c .read4 .ensures)
+    (c2 .before .before .value-in .ensures) (c2 .value-in2 .ensures) (c .before .before .value-in3 .ensures) (c .value-in4 .ensures)
 
 pub square-of-spec : {M : Type 1} → statement M
 square-of-spec =
@@ -35,8 +35,8 @@ square-of-spec =
     (tie.spec
     values-requires
     place-requires
-    read-requires
-    read-requires-2
-    read-requires-3
-    read-requires-4
+    value-in-requires
+    value-in-requires-2
+    value-in-requires-3
+    value-in-requires-4
     returns)

@@ -1,0 +1,159 @@
+// The edge reading: document 01, 'Edge reading'. Public: `interior_ambiguity_verification`, which
+// refuses, and `reading_of`, the reading alone, for callers that have tested their cube and edge; the
+// moves of an edge with a and b, which the case-13 test needs too.
+ghost use mathlib.Core.Path.{_≡_};
+ghost use lib.Ieee.{binary32, add, mul};
+ghost use Rattle.binary32.specs.Numbers.{f32};
+ghost use Rattle.cube.specs.Corners.{valueAt};
+ghost use Rattle.edge.specs.Edge.{aOf, bOf, quotients, edgeBy, told, said, edgeReadingOf};
+ghost use Rattle.edge.specs.Columns.{placeOf, movesOf, crossOf, readOf};
+use cube::Cube;
+use cube::EdgeNo;
+use cube::Refusal;
+use cube::Split;
+
+// What is read at an edge, with t and the product where it came so far.
+pub enum Reading {
+    Rising,
+    Beyond(f32),
+    Crossed(f32, f32),
+    Blank,
+}
+
+// What the edge reading says.
+pub enum EdgeAnswer {
+    Read(Reading),
+    Refused(Refusal),
+}
+
+// The four moves u→v of an edge: the value at u, and g = v - u.
+pub struct Moves {
+    pub u1: f32,
+    pub u2: f32,
+    pub u3: f32,
+    pub u4: f32,
+    pub g1: f32,
+    pub g2: f32,
+    pub g3: f32,
+    pub g4: f32,
+}
+
+// Corners u and v of moves 1 to 4: the hex digit at the edge's place.
+const U1: u64 = 0x3210_2301_0321;
+
+const V1: u64 = 0x7654_1032_1230;
+
+const U2: u64 = 0x2103_3710_3715;
+
+const V2: u64 = 0x6547_0423_2604;
+
+const U3: u64 = 0x1032_7654_7456;
+
+const V3: u64 = 0x5476_4567_6547;
+
+const U4: u64 = 0x0321_6245_4062;
+
+const V4: u64 = 0x4765_5176_5173;
+
+// The edge number, and 12 where there is no such edge.
+fn place(edge: EdgeNo) -> u32
+    ensures { λ r. ⌜ r ≡ placeOf (edge .0) ⌝ }
+{
+    match cube::take_apart(edge.0) {
+        Split::NotBelow(k) => { if k < 12 { k as u32 } else { 12 } }
+        Split::Below(_) => 12,
+    }
+}
+
+// The moves of an edge. A number that is no edge moves from corner 0 to itself four times.
+pub fn moves_of(values: &[f32; 8], edge: EdgeNo) -> Moves
+    ensures { λ r. ⌜ r ≡ movesOf (valueAt (now (values .entry))) (edge .0) ⌝ }
+{
+    let k = place(edge);
+    let u1 = cube::value_in(values, U1, k);
+    let u2 = cube::value_in(values, U2, k);
+    let u3 = cube::value_in(values, U3, k);
+    let u4 = cube::value_in(values, U4, k);
+    Moves {
+        u1: u1,
+        u2: u2,
+        u3: u3,
+        u4: u4,
+        g1: cube::value_in(values, V1, k) - u1,
+        g2: cube::value_in(values, V2, k) - u2,
+        g3: cube::value_in(values, V3, k) - u3,
+        g4: cube::value_in(values, V4, k) - u4,
+    }
+}
+
+// a = g1×g3 - g2×g4
+pub fn a_of(m: Moves) -> f32
+    ensures { λ r. ⌜ r ≡ aOf f32 (m .g1) (m .g2) (m .g3) (m .g4) ⌝ }
+{
+    m.g1 * m.g3 - m.g2 * m.g4
+}
+
+// b = u3×g1 + u1×g3 - u4×g2 - u2×g4, left to right
+pub fn b_of(m: Moves) -> f32
+    ensures { λ r. ⌜ r ≡ bOf f32 (m .u1) (m .u2) (m .u3) (m .u4) (m .g1) (m .g2) (m .g3) (m .g4) ⌝ }
+{
+    m.u3 * m.g1 + m.u1 * m.g3 - m.u4 * m.g2 - m.u2 * m.g4
+}
+
+// The place w = u + g×t of a move.
+pub fn place_at(u: f32, g: f32, t: f32) -> f32
+    ensures { λ r. ⌜ r ≡ add binary32 u (mul binary32 g t) ⌝ }
+{
+    u + g * t
+}
+
+// The reading where t is within 0 and 1, or a NaN.
+fn cross(m: Moves, t: f32) -> Reading
+    ensures { λ r. ⌜ told r ≡ crossOf m t ⌝ }
+{
+    let w1 = place_at(m.u1, m.g1, t);
+    let w2 = place_at(m.u2, m.g2, t);
+    let w3 = place_at(m.u3, m.g3, t);
+    let w4 = place_at(m.u4, m.g4, t);
+    let product = w1 * w3 - w2 * w4;
+    if product != product {
+        return Reading::Blank;
+    }
+    Reading::Crossed(t, product)
+}
+
+// The reading of an edge's moves.
+fn read(m: Moves) -> Reading
+    ensures { λ r. ⌜ told r ≡ readOf m ⌝ }
+{
+    let a = a_of(m);
+    if a > 0.0 {
+        return Reading::Rising;
+    }
+    let t = -b_of(m) / (2.0 * a);
+    if (t < 0.0) | (t > 1.0) {
+        return Reading::Beyond(t);
+    }
+    cross(m, t)
+}
+
+// The reading of an edge by the corners' values.
+pub fn reading_of(values: &[f32; 8], edge: EdgeNo) -> Reading
+    ensures { λ r. ⌜ told r ≡ edgeBy f32 quotients (valueAt (now (values .entry))) (edge .0) ⌝ }
+{
+    read(moves_of(values, edge))
+}
+
+// The edge reading: refusal 5 where the number is no edge, 3 where a corner is not finite, or the reading.
+pub fn interior_ambiguity_verification(q: Cube, edge: EdgeNo) -> EdgeAnswer
+    ensures { λ r. ⌜ said r ≡ edgeReadingOf q (edge .0) ⌝ }
+{
+    if place(edge) == 12 {
+        return EdgeAnswer::Refused(Refusal::NoEdge);
+    }
+    if !cube::all_finite(q) {
+        return EdgeAnswer::Refused(Refusal::NotFinite);
+    }
+    let values = cube::values(q);
+    EdgeAnswer::Read(reading_of(&values, edge))
+}
