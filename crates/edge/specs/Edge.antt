@@ -23,7 +23,7 @@ pub record Move : Type 0 where
 abbrev pub _⟶_ : ℕ → ℕ → Move
 u ⟶ v = record { u = u; v = v }
 
-infix 6 _⟶_
+infix 68 _⟶_
 -- four moves per edge, from edge 0 to edge 11
 unfoldable pub moves : List (List Move)
 moves =

@@ -1,0 +1,218 @@
+// The diagonal pick and the interior test: document 01, 'Diagonal pick' and 'Interior test'. Inner
+// routines for the choice, which has tested its cube.
+ghost use mathlib.Core.Path.{_≡_};
+ghost use Prim.Native.Nat.{_+_, _≤_};
+ghost use Rattle.binary32.specs.Numbers.{f32};
+ghost use Rattle.cube.specs.Corners.{valueAt};
+ghost use Rattle.edge.specs.Edge.{crossed, quotients, told};
+ghost use Rattle.notes.specs.Notes.{total};
+ghost use Rattle.interior.specs.Pick.{pickWith, picked};
+ghost use Rattle.interior.specs.Diagonals.{diagonalsOf, heldBy, lastOf};
+ghost use Rattle.interior.specs.Interior.{seen, noteOf, seenAs, lookAt, joined, counted, insideOf, looked, facesOf};
+use cube::Cube;
+use cube::EdgeNo;
+use cube::Refusal;
+use edge::Reading;
+use notes::Notes;
+
+// The face that a pick is made for: 1 to 6.
+pub struct AmbiguousFace(pub u32);
+
+// The signed number s of an interior test.
+pub struct Side(pub i8);
+
+// The faces that an interior test is made for.
+pub enum Faces {
+    One(AmbiguousFace),
+    Two(AmbiguousFace, AmbiguousFace),
+    Three(AmbiguousFace, AmbiguousFace, AmbiguousFace),
+}
+
+// The edge that a pick leads to.
+pub enum Pick {
+    Edge(EdgeNo),
+    Refused(Refusal),
+}
+
+// Whether a reading's value was 1, and what was counted.
+pub struct Sight {
+    pub hit: bool,
+    pub notes: Notes,
+}
+
+pub enum Found {
+    Seen(Sight),
+    Refused(Refusal),
+}
+
+// Which of the pairs (0,6), (1,7), (2,4) and (3,5) match.
+struct Diagonals {
+    pub from0: bool,
+    pub from1: bool,
+    pub from2: bool,
+    pub from3: bool,
+}
+
+fn diagonals_of(q: Cube, side: Side) -> Diagonals
+    ensures { λ r. ⌜ r ≡ diagonalsOf q (side .0) ⌝ }
+{
+    let s = side.0 as f32;
+    Diagonals {
+        from0: (q.c0 * s > 0.0) & (q.c6 * s > 0.0),
+        from1: (q.c1 * s > 0.0) & (q.c7 * s > 0.0),
+        from2: (q.c2 * s > 0.0) & (q.c4 * s > 0.0),
+        from3: (q.c3 * s > 0.0) & (q.c5 * s > 0.0),
+    }
+}
+
+// The edge of the last pair that matches, and edge 0 where none does.
+fn last(
+    b1: bool,
+    e1: EdgeNo,
+    b2: bool,
+    e2: EdgeNo,
+    b3: bool,
+    e3: EdgeNo,
+    b4: bool,
+    e4: EdgeNo,
+) -> EdgeNo
+    ensures { λ r. ⌜ r ≡ lastOf b1 e1 b2 e2 b3 e3 b4 e4 ⌝ }
+{
+    if b4 {
+        return e4;
+    }
+    if b3 {
+        return e3;
+    }
+    if b2 {
+        return e2;
+    }
+    if b1 { e1 } else { EdgeNo(0) }
+}
+
+// The diagonal pick from the pairs that match.
+fn interior_ambiguity(d: Diagonals, face: AmbiguousFace) -> Pick
+    ensures { λ r. ⌜ picked r ≡ pickWith (heldBy d) (face .0) ⌝ }
+{
+    let n = face.0;
+    if (n == 1) | (n == 3) {
+        return Pick::Edge(last(
+            d.from1,
+            EdgeNo(4),
+            d.from0,
+            EdgeNo(5),
+            d.from3,
+            EdgeNo(6),
+            d.from2,
+            EdgeNo(7),
+        ));
+    }
+    if (n == 2) | (n == 4) {
+        return Pick::Edge(last(
+            d.from1,
+            EdgeNo(0),
+            d.from2,
+            EdgeNo(1),
+            d.from3,
+            EdgeNo(2),
+            d.from0,
+            EdgeNo(3),
+        ));
+    }
+    if (n == 5) | (n == 6) {
+        return Pick::Edge(last(
+            d.from0,
+            EdgeNo(8),
+            d.from1,
+            EdgeNo(9),
+            d.from2,
+            EdgeNo(10),
+            d.from3,
+            EdgeNo(11),
+        ));
+    }
+    Pick::Refused(Refusal::OutsideTable)
+}
+
+// One unsettled where the product compares equal to zero.
+fn unsettled_by(product: f32) -> Notes
+    ensures { λ r. ⌜ r ≡ noteOf f32 quotients (crossed product product) ⌝ }
+{
+    Notes {
+        unsettled: (product == 0.0) as u8,
+    }
+}
+
+// What a reading says: a value of 1, and a product equal to zero is unsettled.
+fn sight_of(r: Reading) -> Sight
+    ensures { λ x. ⌜ seen (x .hit) (x .notes) ≡ seenAs f32 quotients (told r) ⌝ }
+{
+    match r {
+        Reading::Rising => Sight {
+            hit: true,
+            notes: notes::none(),
+        },
+        Reading::Beyond(_) => Sight {
+            hit: true,
+            notes: notes::none(),
+        },
+        Reading::Crossed(_, product) => Sight {
+            hit: product < 0.0,
+            notes: unsettled_by(product),
+        },
+        Reading::Blank => Sight {
+            hit: false,
+            notes: notes::none(),
+        },
+    }
+}
+
+// What is read at the edge that is picked for a face.
+fn look(values: &[f32; 8], d: Diagonals, face: AmbiguousFace) -> Found
+    ensures { λ r. ⌜ looked r ≡ lookAt f32 quotients (valueAt (now (values .entry))) (pickWith (heldBy d) (face .0)) ⌝ }
+{
+    match interior_ambiguity(d, face) {
+        Pick::Edge(e) => Found::Seen(sight_of(edge::reading_of(values, e))),
+        Pick::Refused(why) => Found::Refused(why),
+    }
+}
+
+// Two sights as one: true if any, the counts added.
+fn both(x: Sight, y: Sight) -> Sight
+    requires { ⌜ total (x .notes) + total (y .notes) ≤ 255 ⌝ }
+    ensures { λ r. ⌜ seen (r .hit) (r .notes) ≡ joined (seen (x .hit) (x .notes)) (seen (y .hit) (y .notes)) ⌝ }
+{
+    Sight {
+        hit: x.hit | y.hit,
+        notes: notes::add(x.notes, y.notes),
+    }
+}
+
+fn join(x: Found, y: Found) -> Found
+    requires { ⌜ counted (looked x) + counted (looked y) ≤ 255 ⌝ }
+    ensures { λ r. ⌜ looked r ≡ joined (looked x) (looked y) ⌝ }
+{
+    match x {
+        Found::Refused(why) => Found::Refused(why),
+        Found::Seen(a) => match y {
+            Found::Refused(why) => Found::Refused(why),
+            Found::Seen(b) => Found::Seen(both(a, b)),
+        },
+    }
+}
+
+// The interior test: all readings are made.
+pub fn test_interior(q: Cube, faces: Faces, side: Side) -> Found
+    ensures { λ r. ⌜ looked r ≡ insideOf q (facesOf faces) (side .0) ⌝ }
+{
+    let values = cube::values(q);
+    let d = diagonals_of(q, side);
+    match faces {
+        Faces::One(k) => look(&values, d, k),
+        Faces::Two(k, l) => join(look(&values, d, k), look(&values, d, l)),
+        Faces::Three(k, l, m) => {
+            let rest = join(look(&values, d, l), look(&values, d, m));
+            join(look(&values, d, k), rest)
+        }
+    }
+}
