@@ -2,6 +2,7 @@
 // routines for the choice, which has tested its cube.
 ghost use mathlib.Core.Path.{_≡_};
 ghost use Prim.Native.Nat.{_+_, _≤_};
+ghost use lib.IntN.{pos};
 ghost use Rattle.binary32.specs.Numbers.{f32};
 ghost use Rattle.cube.specs.Corners.{valueAt};
 ghost use Rattle.edge.specs.Edge.{crossed, quotients, told};
@@ -65,71 +66,36 @@ fn diagonals_of(q: Cube, side: Side) -> Diagonals
     }
 }
 
-// The edge of the last pair that matches, and edge 0 where none does.
-fn last(
-    b1: bool,
-    e1: EdgeNo,
-    b2: bool,
-    e2: EdgeNo,
-    b3: bool,
-    e3: EdgeNo,
-    b4: bool,
-    e4: EdgeNo,
-) -> EdgeNo
-    ensures { λ r. ⌜ r ≡ lastOf b1 e1 b2 e2 b3 e3 b4 e4 ⌝ }
+// Of four edges from `first` on, the last whose pair matches; edge 0 where none does.
+fn last(first: u8, b1: bool, b2: bool, b3: bool, b4: bool) -> EdgeNo
+    requires { ⌜ first ≤ 8 ⌝ }
+    ensures { λ r. ⌜ r .0 ≡ pos (lastOf first b1 b2 b3 b4) ⌝ }
 {
     if b4 {
-        return e4;
+        return EdgeNo((first + 3) as i8);
     }
     if b3 {
-        return e3;
+        return EdgeNo((first + 2) as i8);
     }
     if b2 {
-        return e2;
+        return EdgeNo((first + 1) as i8);
     }
-    if b1 { e1 } else { EdgeNo(0) }
+    if b1 { EdgeNo(first as i8) } else { EdgeNo(0) }
 }
 
-// The diagonal pick from the pairs that match.
+// The diagonal pick, from the pairs that match.
 fn interior_ambiguity(d: Diagonals, face: AmbiguousFace) -> Pick
     ensures { λ r. ⌜ picked r ≡ pickWith (heldBy d) (face .0) ⌝ }
 {
     let n = face.0;
     if (n == 1) | (n == 3) {
-        return Pick::Edge(last(
-            d.from1,
-            EdgeNo(4),
-            d.from0,
-            EdgeNo(5),
-            d.from3,
-            EdgeNo(6),
-            d.from2,
-            EdgeNo(7),
-        ));
+        return Pick::Edge(last(4, d.from1, d.from0, d.from3, d.from2));
     }
     if (n == 2) | (n == 4) {
-        return Pick::Edge(last(
-            d.from1,
-            EdgeNo(0),
-            d.from2,
-            EdgeNo(1),
-            d.from3,
-            EdgeNo(2),
-            d.from0,
-            EdgeNo(3),
-        ));
+        return Pick::Edge(last(0, d.from1, d.from2, d.from3, d.from0));
     }
     if (n == 5) | (n == 6) {
-        return Pick::Edge(last(
-            d.from0,
-            EdgeNo(8),
-            d.from1,
-            EdgeNo(9),
-            d.from2,
-            EdgeNo(10),
-            d.from3,
-            EdgeNo(11),
-        ));
+        return Pick::Edge(last(8, d.from0, d.from1, d.from2, d.from3));
     }
     Pick::Refused(Refusal::OutsideTable)
 }
