@@ -37,7 +37,7 @@ const C: u64 = 0x624_7650;
 const D: u64 = 0x510_3210;
 
 // |face|, and 0 where there is no such face.
-fn place(face: Face) -> u32
+pub fn place(face: Face) -> u32
     ensures { λ r. ⌜ r ≡ placeOf (face .0) ⌝ }
 {
     match cube::take_apart(face.0) {

@@ -1,8 +1,48 @@
-// The C interface of the proved crates, for C and Rust to link as a static library. Each function
-// passes numbers only and promises what the crate's own routine does; it grows with the crates.
+// The C interface of the proved crates, for C and Rust to link as a static library. Each function takes
+// numbers and gives document 01's numbers, and promises what the crate's own routine does.
 ghost use mathlib.Core.Path.{_≡_};
 ghost use Rattle.root.specs.Root.{rootBits};
 ghost use Rattle.root.specs.Special.{SpecialBits};
+ghost use Rattle.face.specs.Face.{testFaceOf};
+ghost use Rattle.edge.specs.Edge.{edgeReadingOf};
+ghost use Rattle.choice.specs.Choice.{choiceOf};
+ghost use Rattle.mc33_c.specs.Answers.{choiceNumbers, faceNumbers, edgeNumbers};
+use choice::Choice;
+use cube::Cube;
+use cube::EdgeNo;
+use cube::Face;
+use cube::Refusal;
+use edge::EdgeAnswer;
+use edge::Reading;
+use face::FaceAnswer;
+
+// `refusal` is 0 where there is an answer. Empty is all 0; no tiling is code 255 with the configuration
+// as row and the sub-configuration as column.
+#[repr(C)]
+pub struct Mc33Choice {
+    pub refusal: u8,
+    pub code: u8,
+    pub row: u8,
+    pub column: u8,
+    pub centre: u8,
+    pub unsettled: u8,
+}
+
+// `answer` is 1 for true.
+#[repr(C)]
+pub struct Mc33Face {
+    pub refusal: u8,
+    pub answer: u8,
+}
+
+// `kind` is 1 for rising, 2 beyond, 3 crossed, 4 blank; t and the product are 0 where the reading has none.
+#[repr(C)]
+pub struct Mc33Edge {
+    pub refusal: u8,
+    pub kind: u8,
+    pub t: f32,
+    pub product: f32,
+}
 
 // The pattern of the f32 square root of the value with the pattern `bits`; 7fc00000 for every NaN.
 #[no_mangle]
@@ -11,4 +51,97 @@ pub extern "C" fn mc33_root_bits(bits: u32) -> u32
     ensures special { λ r. ⌜ SpecialBits bits r ⌝ }
 {
     root::root_bits(bits)
+}
+
+fn no_choice(why: Refusal) -> Mc33Choice
+    ensures { λ r. ⌜ r ≡ choiceNumbers (refused (refusalNumber why)) ⌝ }
+{
+    Mc33Choice {
+        refusal: cube::number(why),
+        code: 0,
+        row: 0,
+        column: 0,
+        centre: 0,
+        unsettled: 0,
+    }
+}
+
+// The choice for a case, a configuration and a cube.
+#[no_mangle]
+pub extern "C" fn mc33_choose(case: i8, configuration: i8, cube: Cube) -> Mc33Choice
+    ensures { λ r. ⌜ r ≡ choiceNumbers (choiceOf case configuration cube) ⌝ }
+{
+    match choice::handle_cube(case, configuration, cube) {
+        Choice::Empty => Mc33Choice {
+            refusal: 0,
+            code: 0,
+            row: 0,
+            column: 0,
+            centre: 0,
+            unsettled: 0,
+        },
+        Choice::Untiled(c, sub) => Mc33Choice {
+            refusal: 0,
+            code: 255,
+            row: c,
+            column: sub,
+            centre: 0,
+            unsettled: 0,
+        },
+        Choice::Tiled(t) => Mc33Choice {
+            refusal: 0,
+            code: t.code,
+            row: t.row,
+            column: t.column,
+            centre: t.centre as u8,
+            unsettled: t.notes.unsettled,
+        },
+        Choice::Refused(why) => no_choice(why),
+    }
+}
+
+// The face test of a signed face number.
+#[no_mangle]
+pub extern "C" fn mc33_face(cube: Cube, face: i8) -> Mc33Face
+    ensures { λ r. ⌜ r ≡ faceNumbers (testFaceOf cube face) ⌝ }
+{
+    match face::test_face(cube, Face(face)) {
+        FaceAnswer::Answer(yes) => Mc33Face {
+            refusal: 0,
+            answer: yes as u8,
+        },
+        FaceAnswer::Refused(why) => Mc33Face {
+            refusal: cube::number(why),
+            answer: 0,
+        },
+    }
+}
+
+fn edge_numbers(refusal: u8, kind: u8, t: f32, product: f32) -> Mc33Edge {
+    Mc33Edge {
+        refusal: refusal,
+        kind: kind,
+        t: t,
+        product: product,
+    }
+}
+
+fn reading_numbers(r: Reading) -> Mc33Edge {
+    match r {
+        Reading::Rising => edge_numbers(0, 1, 0.0, 0.0),
+        Reading::Beyond(t) => edge_numbers(0, 2, t, 0.0),
+        Reading::Crossed(t, product) => edge_numbers(0, 3, t, product),
+        Reading::Blank => edge_numbers(0, 4, 0.0, 0.0),
+    }
+}
+
+// The reading of an edge.
+#[no_mangle]
+pub extern "C" fn mc33_edge(cube: Cube, edge: i8) -> Mc33Edge
+    ensures { λ r. ⌜ r ≡ edgeNumbers (edgeReadingOf cube edge) ⌝ }
+{
+    match edge::interior_ambiguity_verification(cube, EdgeNo(edge)) {
+        EdgeAnswer::Read(r) => reading_numbers(r),
+        EdgeAnswer::Refused(why) => edge_numbers(cube::number(why), 0, 0.0, 0.0),
+    }
 }

@@ -1,0 +1,6 @@
+pub mod Choice
+pub mod Numbered
+pub mod Plan
+pub mod Plans
+pub mod Tables
+pub mod Tilings
