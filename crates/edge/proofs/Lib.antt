@@ -1,0 +1,4 @@
+mod Columns
+mod Controls
+mod Places
+mod Readings
