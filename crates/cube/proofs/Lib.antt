@@ -1,2 +1,3 @@
+mod Bounds
 pub mod Signs
 pub mod Table

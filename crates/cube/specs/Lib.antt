@@ -1,3 +1,4 @@
+pub mod Bits
 pub mod Corners
 pub mod Refusals
 pub mod Signs

@@ -6,6 +6,8 @@ ghost use Rattle.cube.specs.Corners.{corners, digitOf, valueAt, allFinit
 ghost use Rattle.cube.specs.Signs.{splitValue};
 ghost use Rattle.cube.specs.Refusals.{refusalNumber};
 
+pub mod bits;
+
 // The corner values c0 to c7, one after the other as C has them.
 #[repr(C)]
 pub struct Cube {
@@ -109,7 +111,9 @@ pub fn value_in(values: &[f32; 8], column: u64, k: u32) -> f32
 pub fn all_finite(q: Cube) -> bool
     ensures { λ r. ⌜ r ≡ allFinite q ⌝ }
 {
-    let low = ((q.c0 - q.c0) + (q.c1 - q.c1)) + ((q.c2 - q.c2) + (q.c3 - q.c3));
-    let high = ((q.c4 - q.c4) + (q.c5 - q.c5)) + ((q.c6 - q.c6) + (q.c7 - q.c7));
-    low + high == 0.0
+    let e0 = (q.c0 - q.c0) + (q.c4 - q.c4);
+    let e1 = (q.c1 - q.c1) + (q.c5 - q.c5);
+    let e2 = (q.c2 - q.c2) + (q.c6 - q.c6);
+    let e3 = (q.c3 - q.c3) + (q.c7 - q.c7);
+    (e0 + e2) + (e1 + e3) == 0.0
 }

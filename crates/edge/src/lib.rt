@@ -6,7 +6,7 @@ ghost use lib.Ieee.{binary32, add, mul};
 ghost use Rattle.binary32.specs.Numbers.{f32};
 ghost use Rattle.cube.specs.Corners.{valueAt};
 ghost use Rattle.edge.specs.Edge.{aOf, bOf, quotients, edgeBy, told, said, edgeReadingOf};
-ghost use Rattle.edge.specs.Columns.{placeOf, movesOf, crossOf, readOf};
+ghost use Rattle.edge.specs.Columns.{placeOf, rowOf, movesOf, crossOf, readOf};
 use cube::Cube;
 use cube::EdgeNo;
 use cube::Refusal;
@@ -38,23 +38,6 @@ pub struct Moves {
     pub g4: f32,
 }
 
-// Corners u and v of moves 1 to 4: the hex digit at the edge's place.
-const U1: u64 = 0x3210_2301_0321;
-
-const V1: u64 = 0x7654_1032_1230;
-
-const U2: u64 = 0x2103_3710_3715;
-
-const V2: u64 = 0x6547_0423_2604;
-
-const U3: u64 = 0x1032_7654_7456;
-
-const V3: u64 = 0x5476_4567_6547;
-
-const U4: u64 = 0x0321_6245_4062;
-
-const V4: u64 = 0x4765_5176_5173;
-
 // The edge number, and 12 where there is no such edge.
 fn place(edge: EdgeNo) -> u32
     ensures { λ r. ⌜ r ≡ placeOf (edge .0) ⌝ }
@@ -65,24 +48,45 @@ fn place(edge: EdgeNo) -> u32
     }
 }
 
+// The corners of an edge's moves as hex digits, from the last: u and v of move 1, of move 2 and so on.
+fn row(k: u32) -> u64
+    ensures { λ r. ⌜ r ≡ rowOf k ⌝ }
+{
+    match k {
+        0 => 0x3276_4501,
+        1 => 0x7645_0132,
+        2 => 0x1054_6723,
+        3 => 0x5467_2310,
+        4 => 0x6574_3021,
+        5 => 0x7465_2130,
+        6 => 0x1256_4703,
+        7 => 0x5647_0312,
+        8 => 0x5162_7340,
+        9 => 0x6273_4051,
+        10 => 0x7340_5162,
+        11 => 0x4051_6273,
+        _ => 0,
+    }
+}
+
 // The moves of an edge. A number that is no edge moves from corner 0 to itself four times.
 pub fn moves_of(values: &[f32; 8], edge: EdgeNo) -> Moves
     ensures { λ r. ⌜ r ≡ movesOf (valueAt (now (values .entry))) (edge .0) ⌝ }
 {
-    let k = place(edge);
-    let u1 = cube::value_in(values, U1, k);
-    let u2 = cube::value_in(values, U2, k);
-    let u3 = cube::value_in(values, U3, k);
-    let u4 = cube::value_in(values, U4, k);
+    let row = row(place(edge));
+    let u1 = cube::value_in(values, row, 0);
+    let u2 = cube::value_in(values, row, 2);
+    let u3 = cube::value_in(values, row, 4);
+    let u4 = cube::value_in(values, row, 6);
     Moves {
         u1: u1,
         u2: u2,
         u3: u3,
         u4: u4,
-        g1: cube::value_in(values, V1, k) - u1,
-        g2: cube::value_in(values, V2, k) - u2,
-        g3: cube::value_in(values, V3, k) - u3,
-        g4: cube::value_in(values, V4, k) - u4,
+        g1: cube::value_in(values, row, 1) - u1,
+        g2: cube::value_in(values, row, 3) - u2,
+        g3: cube::value_in(values, row, 5) - u3,
+        g4: cube::value_in(values, row, 7) - u4,
     }
 }
 

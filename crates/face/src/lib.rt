@@ -1,6 +1,7 @@
 // The face test: document 01, 'Face test'. Public: `test_face`, which refuses, and `face_answer`, the
-// rule alone, for callers that have tested their cube and face.
+// rule alone, for callers that have tested their cube and face; `place`, the face without its sign.
 ghost use mathlib.Core.Path.{_≡_};
+ghost use lib.IntN.{natAbs};
 ghost use Rattle.binary32.specs.Numbers.{f32};
 ghost use Rattle.face.specs.Face.{rule, faceOf, said, testFaceOf};
 ghost use Rattle.face.specs.Columns.{placeOf, squareOf};
@@ -36,14 +37,22 @@ const C: u64 = 0x624_7650;
 
 const D: u64 = 0x510_3210;
 
+// |face|
+fn size(face: Face) -> u32
+    ensures { λ r. ⌜ r ≡ natAbs (face .0) ⌝ }
+{
+    match cube::take_apart(face.0) {
+        Split::NotBelow(k) => k as u32,
+        Split::Below(k) => k as u32 + 1,
+    }
+}
+
 // |face|, and 0 where there is no such face.
 pub fn place(face: Face) -> u32
     ensures { λ r. ⌜ r ≡ placeOf (face .0) ⌝ }
 {
-    match cube::take_apart(face.0) {
-        Split::NotBelow(k) => { if k <= 6 { k as u32 } else { 0 } }
-        Split::Below(k) => { if k < 6 { k as u32 + 1 } else { 0 } }
-    }
+    let k = size(face);
+    if k <= 6 { k } else { 0 }
 }
 
 // val = a×c - b×d; a tie answers face > 0, else (face × a) × val >= 0 does.

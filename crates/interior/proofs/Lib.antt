@@ -1,0 +1,5 @@
+pub mod Bounds
+mod Controls
+mod Insides
+mod Picks
+mod Sights

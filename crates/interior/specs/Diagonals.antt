@@ -1,11 +1,12 @@
 -- How the code of the diagonal pick keeps the four pairs, each by its first corner. Definitions only.
-use Prim.Native.Nat.{ℕ, _+_}
-use mathlib.Core.Bool.{Bool, false, cond}
+use Prim.Native.Nat.{ℕ}
+use mathlib.Core.Bool.{Bool, false}
 use mathlib.Core.List.{[], _∷_}
 use lib.IntN.{ℤ}
 use lib.ListN.{getD}
 use Rattle.binary32.specs.Numbers.{f32}
 use Rattle.cube.specs.declared.Cube.{Cube}
+use Rattle.cube.specs.Bits.{numberOf}
 use Rattle.cube.specs.Corners.{cornerOf}
 use Rattle.interior.specs.declared.Diagonals.{Diagonals}
 use Rattle.interior.specs.Pick.{Diagonal, pair, matchesBy}
@@ -22,6 +23,21 @@ diagonalsOf q s = record {
 unfoldable pub heldBy : Diagonals → Diagonal → Bool
 heldBy d p = getD (d .from0 ∷ d .from1 ∷ d .from2 ∷ d .from3 ∷ []) (p .one) false
 
--- of four edges from `first` on, the last whose Bool holds, and edge 0
-unfoldable pub lastOf : ℕ → Bool → Bool → Bool → Bool → ℕ
-lastOf first b1 b2 b3 b4 = cond b4 (first + 3) (cond b3 (first + 2) (cond b2 (first + 1) (cond b1 first 0)))
+-- the pairs that match as a number, 1 for the pair of corner 0, 2 for that of corner 1, then 4 and 8
+unfoldable pub setOf : Diagonals → ℕ
+setOf d = numberOf (d .from0 ∷ d .from1 ∷ d .from2 ∷ d .from3 ∷ [])
+
+-- the edges that a face's pairs lead to, a hex digit for each set; by ambiguous face, and there is no face 0
+unfoldable pub edgesOf : ℕ → ℕ
+edgesOf n =
+    getD
+    (0
+    ∷ 0x7777666677775450
+    ∷ 0x3232323231313030
+    ∷ 0x7777666677775450
+    ∷ 0x3232323231313030
+    ∷ 0xbbbbbbbbaaaa9980
+    ∷ 0xbbbbbbbbaaaa9980
+    ∷ [])
+    n
+    0

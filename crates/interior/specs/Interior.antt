@@ -12,8 +12,6 @@ use Rattle.notes.specs.declared.Notes.{Notes}
 use Rattle.notes.specs.Notes.{noNotes, added, total}
 use Rattle.interior.specs.declared.Found.{Found}
 use Rattle.interior.specs.declared.Found.the-variants.{Seen, Refused}
-use Rattle.interior.specs.declared.Faces.{Faces}
-use Rattle.interior.specs.declared.Faces.the-variants.{One, Two, Three}
 use Rattle.interior.specs.Pick.{Picked, edge, pickBy}
 use Rattle.interior.specs.Pick as Pick
 
@@ -59,12 +57,7 @@ abbrev pub counted : Look → ℕ
 counted (seen b m) = total m
 counted (refused n) = 0
 
--- what the code finds by document 01's numbers, and the faces that it is given
+-- what the code finds by document 01's numbers
 abbrev pub looked : Found → Look
 looked (Seen s) = seen (s .hit) (s .notes)
 looked (Refused why) = refused (refusalNumber why)
-
-abbrev pub facesOf : Faces → List ℕ
-facesOf (One k) = k .0 ∷ []
-facesOf (Two k l) = k .0 ∷ l .0 ∷ []
-facesOf (Three k l m) = k .0 ∷ l .0 ∷ m .0 ∷ []

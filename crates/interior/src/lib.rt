@@ -2,17 +2,19 @@
 // routines for the choice, which has tested its cube.
 ghost use mathlib.Core.Path.{_≡_};
 ghost use Prim.Native.Nat.{_+_, _≤_};
-ghost use lib.IntN.{pos};
+ghost use mathlib.Core.List.{[], _∷_};
 ghost use Rattle.binary32.specs.Numbers.{f32};
 ghost use Rattle.cube.specs.Corners.{valueAt};
 ghost use Rattle.edge.specs.Edge.{crossed, quotients, told};
 ghost use Rattle.notes.specs.Notes.{total};
 ghost use Rattle.interior.specs.Pick.{pickWith, picked};
-ghost use Rattle.interior.specs.Diagonals.{diagonalsOf, heldBy, lastOf};
-ghost use Rattle.interior.specs.Interior.{seen, noteOf, seenAs, lookAt, joined, counted, insideOf, looked, facesOf};
+ghost use Rattle.interior.specs.Diagonals.{diagonalsOf, heldBy, setOf, edgesOf};
+ghost use Rattle.interior.specs.Interior.{seen, noteOf, seenAs, lookAt, joined, counted, insideOf, looked};
 use cube::Cube;
 use cube::EdgeNo;
 use cube::Refusal;
+use cube::bits::bit;
+use cube::bits::three;
 use edge::Reading;
 use notes::Notes;
 
@@ -21,13 +23,6 @@ pub struct AmbiguousFace(pub u32);
 
 // The signed number s of an interior test.
 pub struct Side(pub i8);
-
-// The faces that an interior test is made for.
-pub enum Faces {
-    One(AmbiguousFace),
-    Two(AmbiguousFace, AmbiguousFace),
-    Three(AmbiguousFace, AmbiguousFace, AmbiguousFace),
-}
 
 // The edge that a pick leads to.
 pub enum Pick {
@@ -66,21 +61,26 @@ fn diagonals_of(q: Cube, side: Side) -> Diagonals
     }
 }
 
-// Of four edges from `first` on, the last whose pair matches; edge 0 where none does.
-fn last(first: u8, b1: bool, b2: bool, b3: bool, b4: bool) -> EdgeNo
-    requires { ⌜ first ≤ 8 ⌝ }
-    ensures { λ r. ⌜ r .0 ≡ pos (lastOf first b1 b2 b3 b4) ⌝ }
+// The pairs that match as a number, a bit for each first corner.
+fn set_of(d: Diagonals) -> u32
+    ensures { λ r. ⌜ (r ≤ 15) × (r ≡ setOf d) ⌝ }
 {
-    if b4 {
-        return EdgeNo((first + 3) as i8);
+    three(d.from0, d.from1, d.from2) + 8 * bit(d.from3)
+}
+
+// The edges that a face's pairs lead to: the hex digit at place k is the edge for the set k.
+fn edges(n: u32) -> u64
+    ensures { λ r. ⌜ r ≡ edgesOf n ⌝ }
+{
+    match n {
+        1 => 0x7777_6666_7777_5450,
+        2 => 0x3232_3232_3131_3030,
+        3 => 0x7777_6666_7777_5450,
+        4 => 0x3232_3232_3131_3030,
+        5 => 0xbbbb_bbbb_aaaa_9980,
+        6 => 0xbbbb_bbbb_aaaa_9980,
+        _ => 0,
     }
-    if b3 {
-        return EdgeNo((first + 2) as i8);
-    }
-    if b2 {
-        return EdgeNo((first + 1) as i8);
-    }
-    if b1 { EdgeNo(first as i8) } else { EdgeNo(0) }
 }
 
 // The diagonal pick, from the pairs that match.
@@ -88,16 +88,10 @@ fn interior_ambiguity(d: Diagonals, face: AmbiguousFace) -> Pick
     ensures { λ r. ⌜ picked r ≡ pickWith (heldBy d) (face .0) ⌝ }
 {
     let n = face.0;
-    if (n == 1) | (n == 3) {
-        return Pick::Edge(last(4, d.from1, d.from0, d.from3, d.from2));
+    if (n < 1) | (6 < n) {
+        return Pick::Refused(Refusal::OutsideTable);
     }
-    if (n == 2) | (n == 4) {
-        return Pick::Edge(last(0, d.from1, d.from2, d.from3, d.from0));
-    }
-    if (n == 5) | (n == 6) {
-        return Pick::Edge(last(8, d.from0, d.from1, d.from2, d.from3));
-    }
-    Pick::Refused(Refusal::OutsideTable)
+    Pick::Edge(EdgeNo(((edges(n) >> (4 * set_of(d))) % 16) as i8))
 }
 
 // One unsettled where the product compares equal to zero.
@@ -167,18 +161,32 @@ fn join(x: Found, y: Found) -> Found
     }
 }
 
-// The interior test: all readings are made.
-pub fn test_interior(q: Cube, faces: Faces, side: Side) -> Found
-    ensures { λ r. ⌜ looked r ≡ insideOf q (facesOf faces) (side .0) ⌝ }
+// The interior test for one face, of cases 6 and 10.
+pub fn test_interior(q: Cube, k: AmbiguousFace, side: Side) -> Found
+    ensures { λ r. ⌜ looked r ≡ insideOf q (k .0 ∷ []) (side .0) ⌝ }
+{
+    let values = cube::values(q);
+    look(&values, diagonals_of(q, side), k)
+}
+
+// For two faces, of case 12. All readings are made.
+pub fn test_interior_two(q: Cube, k: AmbiguousFace, l: AmbiguousFace, side: Side) -> Found
+    ensures { λ r. ⌜ looked r ≡ insideOf q (k .0 ∷ l .0 ∷ []) (side .0) ⌝ }
 {
     let values = cube::values(q);
     let d = diagonals_of(q, side);
-    match faces {
-        Faces::One(k) => look(&values, d, k),
-        Faces::Two(k, l) => join(look(&values, d, k), look(&values, d, l)),
-        Faces::Three(k, l, m) => {
-            let rest = join(look(&values, d, l), look(&values, d, m));
-            join(look(&values, d, k), rest)
-        }
-    }
+    join(look(&values, d, k), look(&values, d, l))
+}
+
+// For faces 1, 2 and 5, of cases 4 and 7. All readings are made.
+pub fn test_interior_three(q: Cube, side: Side) -> Found
+    ensures { λ r. ⌜ looked r ≡ insideOf q (1 ∷ 2 ∷ 5 ∷ []) (side .0) ⌝ }
+{
+    let values = cube::values(q);
+    let d = diagonals_of(q, side);
+    let rest = join(
+        look(&values, d, AmbiguousFace(2)),
+        look(&values, d, AmbiguousFace(5)),
+    );
+    join(look(&values, d, AmbiguousFace(1)), rest)
 }

@@ -1,0 +1,3 @@
+mod Controls
+mod Edge0
+mod Ways

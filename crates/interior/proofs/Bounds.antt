@@ -1,0 +1,60 @@
+-- Unsettled is never more than one for each edge reading: the bounds that callers' sums want. Assumes nothing.
+use mathlib.Core.Bool.{Bool, true, false, cond}
+use mathlib.Core.List.{List, [], _∷_}
+use Prim.Native.Nat.{ℕ, _+_, _≤_}
+use native.Mathlib.Nat.{le-trans}
+use native.Mathlib.Omega.{arith}
+use lib.Dec.{lit≤}
+use lib.IntN.{ℤ}
+use lib.ListN.{length}
+use Rattle.binary32.specs.Numbers.{Numbers, f32}
+use Rattle.cube.specs.declared.Cube.{Cube}
+use Rattle.cube.specs.Corners.{cornerOf}
+use Rattle.edge.specs.Edge.{Told, rising, beyond, crossed, blank, Quotients, edgeBy, quotients}
+use Rattle.notes.specs.Notes.{total}
+use Rattle.interior.specs.declared.Faces.{Faces}
+use Rattle.interior.specs.declared.Faces.the-variants.{One, Two, Three}
+use Rattle.interior.specs.Pick as Pick
+use Rattle.interior.specs.Pick.{Picked, edge, pickBy}
+use Rattle.interior.specs.Interior.{Look, seen, refused, joined, noteOf, seenAs, lookAt, insideBy, insideOf, counted, facesOf}
+
+one-or-none : (b : Bool) → cond b 1 0 ≤ 1
+one-or-none true = lit≤ tt
+one-or-none false = lit≤ tt
+
+pub counted-joined : (x y : Look) → counted (joined x y) ≤ counted x + counted y
+unfolding joined
+counted-joined (refused n) y = omega arith
+counted-joined (seen a m) (refused n) = omega arith
+counted-joined (seen a m) (seen b n) = omega arith
+
+module _ (K : Numbers) (D : Quotients K) where
+  counted-reading : (r : Told (D .Q)) → total (noteOf K D r) ≤ 1
+  unfolding noteOf
+  counted-reading rising = lit≤ tt
+  counted-reading (beyond t) = lit≤ tt
+  counted-reading (crossed t p) = one-or-none (D .nought p)
+  counted-reading blank = lit≤ tt
+
+  pub counted-one : (corner : ℕ → K .N) (p : Picked) → counted (lookAt K D corner p) ≤ 1
+  unfolding lookAt seenAs
+  counted-one corner (edge z) = counted-reading (edgeBy K D corner z)
+  counted-one corner (Pick.refused n) = lit≤ tt
+
+  counted-all : (corner : ℕ → K .N) (faces : List ℕ) (s : ℤ) → counted (insideBy K D corner faces s) ≤ length faces
+  unfolding insideBy
+  counted-all corner [] s = lit≤ tt
+  counted-all corner (n ∷ faces) s =
+      let here = counted-one corner (pickBy K corner s n) in
+      let both = counted-joined (lookAt K D corner (pickBy K corner s n)) (insideBy K D corner faces s) in
+      omega (arith, counted-all corner faces s)
+
+pub inside-bound : (q : Cube) (faces : List ℕ) (s : ℤ) → counted (insideOf q faces s) ≤ length faces
+unfolding insideOf
+inside-bound q faces s = counted-all f32 quotients (cornerOf q) faces s
+
+-- the interior test counts 0 to 3
+pub inside-three : (q : Cube) (faces : Faces) (s : ℤ) → counted (insideOf q (facesOf faces) s) ≤ 3
+inside-three q (One k) s = le-trans (inside-bound q (k .0 ∷ []) s) (lit≤ tt)
+inside-three q (Two k l) s = le-trans (inside-bound q (k .0 ∷ l .0 ∷ []) s) (lit≤ tt)
+inside-three q (Three k l m) s = inside-bound q (k .0 ∷ l .0 ∷ m .0 ∷ []) s

@@ -1,0 +1,143 @@
+-- That the definitions say something, by computation: diagonal picks for each face with each pair, with two at once and with none; and interior tests.
+-- Expected edges, values and counts are those of the Rust; refusal 9 is document 01's. Values are written as bits. Assumes nothing.
+use mathlib.Core.Path.{_≡_, refl}
+use mathlib.Core.Bool.{Bool, true, false}
+use mathlib.Core.List.{List, [], _∷_, map}
+use Prim.Native.Nat.{ℕ}
+use lib.IntN.{ℤ, pos, negsuc}
+use lib.Ieee.{binary32, ofBits, neg, add, sub, mul, div, lt, eq, isNan, ofInt}
+use Rattle.binary32.specs.Numbers.{f32}
+use Rattle.cube.specs.declared.Cube.{Cube}
+use Rattle.cube.specs.Corners.{corners, valueAt, cornerOf}
+use Rattle.edge.specs.Edge.{moves, moveOf, crossBy, readBy, edgeBy}
+use Rattle.interior.specs.Pick as Pick
+use Rattle.interior.specs.Pick.{diagonals, lastMatch, Picked, edge, pickWith, pickBy}
+use Rattle.interior.specs.Interior.{Look, seen, refused, joined, noteOf, seenAs, lookAt, insideBy, insideOf}
+
+-- 1, -1 and -0
+abbrev up : ℕ
+up = 0x3f800000
+
+abbrev down : ℕ
+down = 0xbf800000
+
+abbrev minus-zero : ℕ
+minus-zero = 0x80000000
+
+abbrev cube : ℕ → ℕ → ℕ → ℕ → ℕ → ℕ → ℕ → ℕ → Cube
+cube a b c d e f g h = record {
+  c0 = ofBits binary32 a;
+  c1 = ofBits binary32 b;
+  c2 = ofBits binary32 c;
+  c3 = ofBits binary32 d;
+  c4 = ofBits binary32 e;
+  c5 = ofBits binary32 f;
+  c6 = ofBits binary32 g;
+  c7 = ofBits binary32 h;
+}
+
+-- ---- picks: what is said for faces 0 to 7; 0 and 7 are refused
+record Row : Type 0 where
+  q : Cube
+  s : ℤ
+  says : List Picked
+
+abbrev row : Cube → ℤ → ℕ → ℕ → ℕ → ℕ → ℕ → ℕ → Row
+row q s a b c d e f = record {
+  q = q;
+  s = s;
+  says = Pick.refused 9 ∷ edge (pos a) ∷ edge (pos b) ∷ edge (pos c) ∷ edge (pos d) ∷ edge (pos e) ∷ edge (pos f) ∷ Pick.refused 9 ∷ [];
+}
+
+rows : List Row
+rows =
+    -- one pair alone
+    row (cube up down down down down down up down) (pos 7) 5 3 5 3 8 8
+    ∷ row (cube down up down down down down down up) (pos 7) 4 0 4 0 9 9
+    ∷ row (cube down down up down up down down down) (pos 7) 7 1 7 1 10 10
+    ∷ row (cube down down down up down up down down) (pos 7) 6 2 6 2 11 11
+    -- two at once: the last of the order stands
+    ∷ row (cube up up down down down down up up) (pos 7) 5 3 5 3 9 9
+    ∷ row (cube up down up down up down up down) (pos 7) 7 3 7 3 10 10
+    ∷ row (cube up down down up down up up down) (pos 7) 6 3 6 3 11 11
+    ∷ row (cube down up up down up down down up) (pos 7) 7 1 7 1 10 10
+    ∷ row (cube down up down up down up down up) (pos 7) 6 2 6 2 11 11
+    ∷ row (cube down down up up up up down down) (pos 7) 7 2 7 2 11 11
+    -- all four; none: edge 0
+    ∷ row (cube up up up up up up up up) (pos 7) 7 3 7 3 11 11
+    ∷ row (cube down down down down down down down down) (pos 7) 0 0 0 0 0 0
+    -- zeros match nothing, and neither does one corner of each pair
+    ∷ row (cube 0 0 0 0 0 0 0 0) (pos 7) 0 0 0 0 0 0
+    ∷ row (cube minus-zero minus-zero minus-zero minus-zero minus-zero minus-zero minus-zero minus-zero) (negsuc 6) 0 0 0 0 0 0
+    ∷ row (cube up up up up down down down down) (pos 7) 0 0 0 0 0 0
+    ∷ row (cube down down down down up up up up) (pos 7) 0 0 0 0 0 0
+    -- s below zero turns the signs; s = 0 matches nothing
+    ∷ row (cube up down down up down up up down) (negsuc 6) 7 1 7 1 10 10
+    ∷ row (cube down up up down up down down up) (negsuc 0) 6 3 6 3 11 11
+    ∷ row (cube down down down down down down down down) (negsuc 127) 7 3 7 3 11 11
+    ∷ row (cube up up up up up up up up) (pos 0) 0 0 0 0 0 0
+    -- 7 times 2 ^ 127 is infinite and above 0; the smallest value is above 0; a NaN matches nothing
+    ∷ row (cube 0x7f000000 down down down down down 0x7f000000 down) (pos 7) 5 3 5 3 8 8
+    ∷ row (cube down 1 down down down down down 1) (pos 1) 4 0 4 0 9 9
+    ∷ row (cube down down 0x7fc00000 down 0x7fc00000 down down down) (pos 7) 0 0 0 0 0 0
+    ∷ []
+
+rows-hold : map (λ t. map (pickBy f32 (cornerOf (t .q)) (t .s)) (0 ∷ 1 ∷ 2 ∷ 3 ∷ 4 ∷ 5 ∷ 6 ∷ 7 ∷ [])) rows ≡ map (λ t. t .says) rows
+unfolding rows pickBy pickWith lastMatch diagonals cornerOf valueAt corners ofBits mul lt ofInt
+rows-hold = refl
+
+-- ---- interior tests
+record Test : Type 0 where
+  q : Cube
+  faces : List ℕ
+  s : ℤ
+  says : Look
+
+abbrev test : Cube → List ℕ → ℤ → Look → Test
+test q ns s l = record { q = q; faces = ns; s = s; says = l }
+
+abbrev sees : Bool → ℕ → Look
+sees b n = seen b (record { unsettled = n })
+
+-- those of cases 4 and 7
+abbrev three : List ℕ
+three = 1 ∷ 2 ∷ 5 ∷ []
+
+abbrev mixed : Cube
+mixed = cube 0x40400000 0xc0400000 0x40800000 down up down 0x40800000 0xc0400000
+
+tests : List Test
+tests =
+    -- document 01's cubes of case 4, s as TEST_4 has it: c0 = c6 = 1, 9 and 3; all 1
+    test (cube up down down down down down up down) three (pos 7) (sees true 0)
+    ∷ test (cube 0x41100000 down down down down down 0x41100000 down) three (pos 7) (sees false 0)
+    ∷ test (cube 0x40400000 down down down down down 0x40400000 down) three (pos 7) (sees false 3)
+    ∷ test (cube up up up up up up up up) three (pos 7) (sees false 0)
+    -- the third with other signs and s = -7
+    ∷ test (cube 0xc0400000 up up up up up 0xc0400000 up) three (negsuc 6) (sees false 3)
+    -- true by the first reading alone, by the second, by the third; counts of the others stand
+    ∷ test (cube 0xc0000000 up 0xc0400000 0x40800000 0x40400000 0xc0000000 0x40800000 0x40400000) three (pos 7) (sees true 2)
+    ∷ test (cube 0xc0000000 down 0x40400000 0x40400000 up down down 0xc0000000) three (pos 7) (sees true 2)
+    ∷ test mixed three (pos 7) (sees true 2)
+    -- the last one by fewer faces, and by a face twice
+    ∷ test mixed (1 ∷ []) (pos 7) (sees false 1)
+    ∷ test mixed (5 ∷ []) (pos 7) (sees true 0)
+    ∷ test mixed (1 ∷ 2 ∷ []) (pos 7) (sees false 2)
+    ∷ test mixed (2 ∷ 5 ∷ []) (pos 7) (sees true 1)
+    ∷ test mixed (5 ∷ 2 ∷ []) (pos 7) (sees true 1)
+    ∷ test mixed (1 ∷ 1 ∷ []) (pos 7) (sees false 2)
+    -- a reading that is blank is not unsettled
+    ∷ test (cube down 0x40000000 0x40800000 0xc0000000 up 0xc0000000 0xc0000000 up) three (pos 7) (sees false 1)
+    ∷ test (cube 0 0 0 0 0 0 0 0) three (pos 7) (sees false 0)
+    -- no pair matches: edge 0 is read each time
+    ∷ test (cube 0x40000000 0xc0000000 0x40400000 0xc0400000 0xc0000000 0x40000000 0xc0000000 0x40000000) three (pos 7) (sees false 3)
+    -- a face that is none of the six is refused wherever it stands
+    ∷ test mixed (0 ∷ []) (pos 7) (refused 9)
+    ∷ test mixed (7 ∷ 5 ∷ []) (pos 7) (refused 9)
+    ∷ test mixed (5 ∷ 0 ∷ []) (pos 7) (refused 9)
+    ∷ test mixed (1 ∷ 2 ∷ 7 ∷ []) (pos 7) (refused 9)
+    ∷ []
+
+tests-hold : map (λ t. insideOf (t .q) (t .faces) (t .s)) tests ≡ map (λ t. t .says) tests
+unfolding tests insideOf insideBy joined lookAt seenAs noteOf edgeBy readBy crossBy moveOf moves pickBy pickWith lastMatch diagonals cornerOf valueAt corners ofBits neg add sub mul div lt eq isNan ofInt
+tests-hold = refl

@@ -1,0 +1,102 @@
+// The speed of both on the same cubes.
+use crate::cubes::{free, suited, Random};
+use crate::families::{AMBIGUOUS, CONFIGURATIONS, GIVEN, STARTS, SUITED};
+use crate::library::{choose, Mc33Cube};
+use crate::rust::{handle, Bare, Cube};
+use std::hint::black_box;
+use std::time::Instant;
+
+fn suited_cube(random: &mut Random, family: usize) -> Cube {
+    Cube { given: GIVEN[family], corners: suited(SUITED[family], || random.unit()) }
+}
+
+fn unsuited_cube(random: &mut Random, family: usize) -> Cube {
+    let corners = free(|| {
+        let magnitude = random.unit();
+        random.signed(magnitude)
+    });
+    Cube { given: GIVEN[family], corners }
+}
+
+// The same cubes for both.
+struct Course {
+    name: String,
+    bounded: bool,
+    cubes: Vec<Cube>,
+}
+
+fn course(name: String, bounded: bool, cases: &[usize], cube: fn(&mut Random, usize) -> Cube) -> Course {
+    let rows = |&case: &usize| (STARTS[case]..).take(CONFIGURATIONS[case]);
+    let families: Vec<usize> = cases.iter().flat_map(rows).collect();
+    let mut random = Random(33);
+    let drawn = |_| {
+        let family = families[random.below(families.len())];
+        cube(&mut random, family)
+    };
+    Course { name, bounded, cubes: (0..32768).map(drawn).collect() }
+}
+
+fn courses() -> Vec<Course> {
+    let every: Vec<usize> = (0..15).collect();
+    let mut all = vec![
+        course("mixed families".into(), true, &every, suited_cube),
+        course("ambiguous families".into(), true, &AMBIGUOUS, suited_cube),
+        course("mixed, any signs".into(), false, &every, unsuited_cube),
+        course("ambiguous, any signs".into(), false, &AMBIGUOUS, unsuited_cube),
+    ];
+    all.extend((0..15).map(|case| course(format!("case {case}"), false, &[case], suited_cube)));
+    all
+}
+
+// Nanoseconds a cube.
+#[inline(never)]
+fn time_ours(cubes: &[Cube]) -> f64 {
+    let start = Instant::now();
+    for cube in cubes {
+        black_box(choose(cube.given, Mc33Cube(cube.corners)));
+    }
+    start.elapsed().as_nanos() as f64 / cubes.len() as f64
+}
+
+#[inline(never)]
+fn time_theirs(cubes: &[Cube], rust: &mut Bare) -> f64 {
+    let start = Instant::now();
+    for cube in cubes {
+        handle(rust, cube);
+        black_box((rust.note, rust.centre));
+    }
+    start.elapsed().as_nanos() as f64 / cubes.len() as f64
+}
+
+fn median(mut times: Vec<f64>) -> f64 {
+    times.sort_by(f64::total_cmp);
+    times[times.len() / 2]
+}
+
+// Medians of ours, of theirs, and of their quotient round by round.
+fn race(course: &Course, rust: &mut Bare) -> [f64; 3] {
+    let (mut ours, mut theirs) = (Vec::new(), Vec::new());
+    for round in 0..101 {
+        if round % 2 == 0 {
+            ours.push(time_ours(&course.cubes));
+        }
+        theirs.push(time_theirs(&course.cubes, rust));
+        if round % 2 == 1 {
+            ours.push(time_ours(&course.cubes));
+        }
+    }
+    let quotients = ours.iter().zip(&theirs).map(|(a, b)| a / b).collect();
+    [median(ours), median(theirs), median(quotients)]
+}
+
+pub fn speed() -> bool {
+    let (mut rust, mut fast) = (Bare::new(), true);
+    println!("{:<24}{:>9}{:>12}{:>8}{:>16}", "ns a cube", "ours", "the Rust's", "times", "round by round");
+    for course in courses() {
+        let [ours, theirs, quotient] = race(&course, &mut rust);
+        let times = ours / theirs;
+        println!("{:<24}{ours:>9.2}{theirs:>12.2}{times:>8.2}{quotient:>16.2}", course.name);
+        fast &= !course.bounded || times <= 1.0;
+    }
+    fast
+}
