@@ -1,6 +1,4 @@
 pub mod Choice
-pub mod Numbered
-pub mod Plan
-pub mod Plans
-pub mod Tables
-pub mod Tilings
+pub mod Kin
+pub mod Ranges
+pub mod Starred

@@ -7,7 +7,6 @@ ghost use Rattle.face.specs.Face.{testFaceOf};
 ghost use Rattle.edge.specs.Edge.{edgeReadingOf};
 ghost use Rattle.choice.specs.Choice.{choiceOf};
 ghost use Rattle.mc33_c.specs.Answers.{choiceNumbers, faceNumbers, edgeNumbers};
-use choice::Choice;
 use cube::Cube;
 use cube::EdgeNo;
 use cube::Face;
@@ -15,6 +14,7 @@ use cube::Refusal;
 use edge::EdgeAnswer;
 use edge::Reading;
 use face::FaceAnswer;
+use families::Choice;
 
 // `refusal` is 0 where there is an answer. Empty is all 0; no tiling is code 255 with the configuration
 // as row and the sub-configuration as column.

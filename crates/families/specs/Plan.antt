@@ -8,7 +8,7 @@ use Rattle.notes.specs.declared.Notes.{Notes}
 use Rattle.notes.specs.Notes.{added}
 use Rattle.interior.specs.Interior.{Look, seen}
 use Rattle.interior.specs.Interior as Interior
-use Rattle.choice.specs.Tilings.{hasCentre}
+use Rattle.families.specs.Tilings.{hasCentre}
 
 pub data Question : Type 0 where
   -- the face test of a signed face number

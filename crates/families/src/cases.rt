@@ -1,68 +1,28 @@
-// The families of document 01, 'Choice': for each case that asks something, the columns of its TEST
-// table, eight rows to a line, and its function, which follows the case's plan. The column s is a rule:
-// 7 in the rows whose faces are above 0, -7 in the others.
+// The cases of document 01, 'Choice', that ask something: for each the columns of its TEST table, eight
+// rows to a line, and its function, which follows the case's plan. The column s is a rule: 7 in the rows
+// whose faces are above 0, -7 in the others.
 ghost use mathlib.Core.Path.{_≡_};
-ghost use mathlib.Core.Bool.{cond};
-ghost use mathlib.Core.List.{[], _∷_};
 ghost use Prim.Native.Nat.{_<_, _≤_};
-ghost use lib.IntN.{pos, negsuc};
+ghost use lib.IntN.{negsuc};
 ghost use lib.ListN.{getD};
 ghost use Rattle.face.specs.Columns.{placeOf};
 ghost use Rattle.notes.specs.Notes.{noNotes};
-ghost use Rattle.interior.specs.Interior.{looked, facesOf};
-ghost use Rattle.choice.specs.Tilings.{hasCentre, configurations};
-ghost use Rattle.choice.specs.Plan.{run, settled, tiling};
-ghost use Rattle.choice.specs.Plans.{plan3, plan4, plan6, part7, plan7, twoFaces, plan10, plan12, tile13, part13, plan13, planOf, three};
-ghost use Rattle.choice.specs.Tables.{«SUB_CONFIG_13»};
-ghost use Rattle.choice.specs.Choice.{answersOf, chosen};
-ghost use Rattle.choice.specs.Numbered.{numberOf, sideOf, twoPlan};
+ghost use Rattle.families.specs.Plan.{run};
+ghost use Rattle.families.specs.Plans.{plan3, plan4, plan6, part7, plan7, plan10, plan12, tile13, part13, plan13};
+ghost use Rattle.families.specs.Tables.{«SUB_CONFIG_13»};
+ghost use Rattle.families.specs.Answers.{answersOf, chosen, sideOf};
 use crate::Choice;
-use crate::Tiling;
 use crate::tilings::*;
 use cube::Cube;
 use cube::Face;
+use cube::bits::three;
 use face::face_answer;
 use interior::AmbiguousFace;
-use interior::Faces;
-use interior::Found;
 use interior::Side;
 use interior::test_interior;
-use notes::Notes;
-
-fn tile(code: u8, row: u8, column: u8, notes: Notes) -> Choice
-    ensures { λ r. ⌜ chosen r ≡ tiling code row column (hasCentre code) notes ⌝ }
-{
-    Choice::Tiled(Tiling {
-        code: code,
-        row: row,
-        column: column,
-        centre: has_centre(code),
-        notes: notes,
-    })
-}
-
-// A tiling that is chosen with nothing counted, in a table with one tiling a row.
-fn plain(code: u8, row: u8) -> Choice
-    ensures { λ r. ⌜ chosen r ≡ tiling code row 0 (hasCentre code) noNotes ⌝ }
-{
-    tile(code, row, 0, notes::none())
-}
-
-// Where an interior test leads: to a tiling and its row by a yes, to another by a no.
-fn settle(found: Found, yes: u8, row: u8, no: u8, other: u8) -> Choice
-    ensures { λ r. ⌜ chosen r ≡ settled (looked found) (tiling yes row 0 (hasCentre yes)) (tiling no other 0 (hasCentre no)) noNotes ⌝ }
-{
-    match found {
-        Found::Seen(s) => {
-            let notes = s.notes;
-            if s.hit {
-                return tile(yes, row, 0, notes);
-            }
-            tile(no, other, 0, notes)
-        }
-        Found::Refused(why) => Choice::Refused(why),
-    }
-}
+use interior::test_interior_three;
+use interior::test_interior_two;
+use thirteen::interior_test_case13;
 
 // The number s of the TEST tables.
 fn side(positive: bool) -> Side
@@ -78,20 +38,13 @@ fn ambiguous(face: Face) -> AmbiguousFace
     AmbiguousFace(face::place(face))
 }
 
-// The faces of the interior test of cases 4 and 7.
-fn three_faces() -> Faces
-    ensures { λ r. ⌜ facesOf r ≡ three ⌝ }
-{
-    Faces::Three(AmbiguousFace(1), AmbiguousFace(2), AmbiguousFace(5))
-}
-
 const FACE_3: [[i8; 8]; 3] = [
     [5, 1, 4, 5, 1, 2, 2, 3],
     [4, 3, 6, 6, -6, -6, -3, -4],
     [-3, -2, -2, -1, -5, -4, -1, -5],
 ];
 
-fn case_3(q: Cube, c: u8) -> Choice
+pub fn case_3(q: Cube, c: u8) -> Choice
     requires { ⌜ c < 24 ⌝ }
     ensures { λ r. ⌜ chosen r ≡ run (answersOf q) (plan3 c) noNotes ⌝ }
 {
@@ -101,12 +54,12 @@ fn case_3(q: Cube, c: u8) -> Choice
     plain(TILING_3_1, c)
 }
 
-fn case_4(q: Cube, c: u8) -> Choice
+pub fn case_4(q: Cube, c: u8) -> Choice
     requires { ⌜ c < 8 ⌝ }
     ensures { λ r. ⌜ chosen r ≡ run (answersOf q) (plan4 c) noNotes ⌝ }
 {
     settle(
-        test_interior(q, three_faces(), side(c < 4)),
+        test_interior_three(q, side(c < 4)),
         TILING_4_1,
         c,
         TILING_4_2,
@@ -123,7 +76,7 @@ const FACE_6: [[i8; 8]; 6] = [
     [-1, -6, -3, -1, -5, -5, -4, -2],
 ];
 
-fn case_6(q: Cube, c: u8) -> Choice
+pub fn case_6(q: Cube, c: u8) -> Choice
     requires { ⌜ c < 48 ⌝ }
     ensures { λ r. ⌜ chosen r ≡ run (answersOf q) (plan6 c) noNotes ⌝ }
 {
@@ -131,15 +84,8 @@ fn case_6(q: Cube, c: u8) -> Choice
     if face_answer(q, face) {
         return plain(TILING_6_2, c);
     }
-    let found = test_interior(q, Faces::One(ambiguous(face)), side(c < 24));
+    let found = test_interior(q, ambiguous(face), side(c < 24));
     settle(found, TILING_6_1_1, c, TILING_6_1_2, c)
-}
-
-// The number of three answers: 1 for the first, 2 for the second, 4 for the third.
-fn number(b0: bool, b1: bool, b2: bool) -> u8
-    ensures { λ r. ⌜ (r < 8) × (r ≡ numberOf (b0 ∷ b1 ∷ b2 ∷ [])) ⌝ }
-{
-    b0 as u8 + 2 * (b1 as u8) + 4 * (b2 as u8)
 }
 
 const FIRST_7: [[i8; 8]; 2] = [[1, 3, 4, 4, 2, 1, 2, 3], [-3, -2, -1, -2, -4, -4, -3, -1]];
@@ -161,13 +107,13 @@ const TILING_OF_7: [u8; 7] = [
 
 const COLUMN_OF_7: [u8; 7] = [0, 0, 1, 0, 2, 1, 2];
 
-fn part_7(q: Cube, c: u8, sub: u8) -> Choice
-    requires { ⌜ (c < 16) × (sub < 8) ⌝ }
+fn part_7(q: Cube, c: u8, sub: u32) -> Choice
+    requires { ⌜ (c < 16) × (sub ≤ 7) ⌝ }
     ensures { λ r. ⌜ chosen r ≡ run (answersOf q) (part7 c sub) noNotes ⌝ }
 {
     if sub == 7 {
         return settle(
-            test_interior(q, three_faces(), side(8 <= c)),
+            test_interior_three(q, side(8 <= c)),
             TILING_7_4_1,
             c,
             TILING_7_4_2,
@@ -178,7 +124,7 @@ fn part_7(q: Cube, c: u8, sub: u8) -> Choice
     tile(TILING_OF_7[i], c, COLUMN_OF_7[i], notes::none())
 }
 
-fn case_7(q: Cube, c: u8) -> Choice
+pub fn case_7(q: Cube, c: u8) -> Choice
     requires { ⌜ c < 16 ⌝ }
     ensures { λ r. ⌜ chosen r ≡ run (answersOf q) (plan7 c) noNotes ⌝ }
 {
@@ -187,74 +133,32 @@ fn case_7(q: Cube, c: u8) -> Choice
     let b0 = face_answer(q, Face(FIRST_7[i][k]));
     let b1 = face_answer(q, Face(SECOND_7[i][k]));
     let b2 = face_answer(q, Face(THIRD_7[i][k]));
-    part_7(q, c, number(b0, b1, b2))
-}
-
-// The tilings of a case with two faces, N_1_1, N_1_1_, N_1_2, N_2 and N_2_, with the row and the other row.
-struct Two {
-    pub t11: u8,
-    pub t11x: u8,
-    pub t12: u8,
-    pub t2: u8,
-    pub t2x: u8,
-    pub row: u8,
-    pub other: u8,
-}
-
-// The family of cases 10 and 12.
-fn two_faces(q: Cube, first: Face, second: Face, faces: Faces, t: Two) -> Choice
-    ensures { λ r. ⌜ chosen r ≡ run (answersOf q) (twoPlan (first .0) (second .0) (facesOf faces) t) noNotes ⌝ }
-{
-    let also = face_answer(q, second);
-    if face_answer(q, first) {
-        if also {
-            return settle(
-                test_interior(q, faces, side(false)),
-                t.t11x,
-                t.row,
-                t.t12,
-                t.other,
-            );
-        }
-        return plain(t.t2, t.row);
-    }
-    if also {
-        return plain(t.t2x, t.row);
-    }
-    settle(
-        test_interior(q, faces, side(true)),
-        t.t11,
-        t.row,
-        t.t12,
-        t.row,
-    )
+    part_7(q, c, three(b0, b1, b2))
 }
 
 const FIRST_10: [i8; 6] = [2, 5, 1, 1, 5, 2];
 
 const SECOND_10: [i8; 6] = [4, 6, 3, 3, 6, 4];
 
-fn case_10(q: Cube, c: u8) -> Choice
+pub fn case_10(q: Cube, c: u8) -> Choice
     requires { ⌜ c < 6 ⌝ }
     ensures { λ r. ⌜ chosen r ≡ run (answersOf q) (plan10 c) noNotes ⌝ }
 {
-    let first = Face(FIRST_10[c as usize]);
-    let t = Two {
-        t11: TILING_10_1_1,
-        t11x: TILING_10_1_1_,
-        t12: TILING_10_1_2,
-        t2: TILING_10_2,
-        t2x: TILING_10_2_,
-        row: c,
-        other: 5 - c,
-    };
-    two_faces(
-        q,
-        first,
-        Face(SECOND_10[c as usize]),
-        Faces::One(ambiguous(first)),
-        t,
-    )
+    let face = Face(FIRST_10[c as usize]);
+    let other = Face(SECOND_10[c as usize]);
+    let first = face_answer(q, face);
+    let second = face_answer(q, other);
+    if first & !second {
+        return plain(TILING_10_2, c);
+    }
+    if second & !first {
+        return plain(TILING_10_2_, c);
+    }
+    let found = test_interior(q, ambiguous(face), side(!first));
+    if first {
+        return settle(found, TILING_10_1_1_, c, TILING_10_1_2, 5 - c);
+    }
+    settle(found, TILING_10_1_1, c, TILING_10_1_2, c)
 }
 
 const FIRST_12: [[i8; 8]; 3] = [
@@ -269,28 +173,27 @@ const SECOND_12: [[i8; 8]; 3] = [
     [5, 5, 5, 2, 6, 2, 3, 4],
 ];
 
-fn case_12(q: Cube, c: u8) -> Choice
+pub fn case_12(q: Cube, c: u8) -> Choice
     requires { ⌜ c < 24 ⌝ }
     ensures { λ r. ⌜ chosen r ≡ run (answersOf q) (plan12 c) noNotes ⌝ }
 {
-    let first = Face(FIRST_12[(c / 8) as usize][(c % 8) as usize]);
-    let second = Face(SECOND_12[(c / 8) as usize][(c % 8) as usize]);
-    let t = Two {
-        t11: TILING_12_1_1,
-        t11x: TILING_12_1_1_,
-        t12: TILING_12_1_2,
-        t2: TILING_12_2,
-        t2x: TILING_12_2_,
-        row: c,
-        other: 23 - c,
-    };
-    two_faces(
-        q,
-        first,
-        second,
-        Faces::Two(ambiguous(first), ambiguous(second)),
-        t,
-    )
+    let i = (c / 8) as usize;
+    let k = (c % 8) as usize;
+    let face = Face(FIRST_12[i][k]);
+    let other = Face(SECOND_12[i][k]);
+    let first = face_answer(q, face);
+    let second = face_answer(q, other);
+    if first & !second {
+        return plain(TILING_12_2, c);
+    }
+    if second & !first {
+        return plain(TILING_12_2_, c);
+    }
+    let found = test_interior_two(q, ambiguous(face), ambiguous(other), side(!first));
+    if first {
+        return settle(found, TILING_12_1_1_, c, TILING_12_1_2, 23 - c);
+    }
+    settle(found, TILING_12_1_1, c, TILING_12_1_2, c)
 }
 
 const FIRST_13: [i8; 2] = [1, 2];
@@ -343,7 +246,7 @@ fn tile_13(q: Cube, c: u8, code: u8, column: u8) -> Choice
     ensures { λ r. ⌜ chosen r ≡ run (answersOf q) (tile13 c code column) noNotes ⌝ }
 {
     if code == TILING_13_5_1 {
-        if thirteen::interior_test_case13(q) {
+        if interior_test_case13(q) {
             return tile(TILING_13_5_1, c, column, notes::none());
         }
         return tile(TILING_13_5_2, 1 - c, column, notes::none());
@@ -351,13 +254,13 @@ fn tile_13(q: Cube, c: u8, code: u8, column: u8) -> Choice
     tile(code, c, column, notes::none())
 }
 
-fn part_13(q: Cube, c: u8, sub: u8) -> Choice
-    requires { ⌜ (c < 2) × (sub < 64) ⌝ }
+fn part_13(q: Cube, c: u8, sub: u32) -> Choice
+    requires { ⌜ (c < 2) × (sub ≤ 63) ⌝ }
     ensures { λ r. ⌜ chosen r ≡ run (answersOf q) (part13 c sub (getD «SUB_CONFIG_13» sub (negsuc 0))) noNotes ⌝ }
 {
     let code = TILING_OF_13[(sub / 4) as usize][(sub % 4) as usize];
     if code == NONE {
-        return Choice::Untiled(c, sub);
+        return Choice::Untiled(c, sub as u8);
     }
     tile_13(
         q,
@@ -367,7 +270,7 @@ fn part_13(q: Cube, c: u8, sub: u8) -> Choice
     )
 }
 
-fn case_13(q: Cube, c: u8) -> Choice
+pub fn case_13(q: Cube, c: u8) -> Choice
     requires { ⌜ c < 2 ⌝ }
     ensures { λ r. ⌜ chosen r ≡ run (answersOf q) (plan13 c) noNotes ⌝ }
 {
@@ -378,37 +281,5 @@ fn case_13(q: Cube, c: u8) -> Choice
     let b3 = face_answer(q, Face(FOURTH_13[i]));
     let b4 = face_answer(q, Face(FIFTH_13[i]));
     let b5 = face_answer(q, Face(SIXTH_13[i]));
-    part_13(q, c, number(b0, b1, b2) + 8 * number(b3, b4, b5))
-}
-
-// The cases that ask nothing.
-fn unambiguous(case: u8, c: u8) -> Choice
-    requires { ⌜ (0 < case) × (c < getD configurations case 0) ⌝ }
-{
-    match case {
-        1 => plain(TILING_1, c),
-        2 => plain(TILING_2, c),
-        5 => plain(TILING_5, c),
-        8 => plain(TILING_8, c),
-        9 => plain(TILING_9, c),
-        11 => plain(TILING_11, c),
-        _ => plain(TILING_14, c),
-    }
-}
-
-// The choice for a configuration of a case from 1 to 14.
-pub fn choose(q: Cube, case: u8, c: u8) -> Choice
-    requires { ⌜ c < getD configurations case 0 ⌝ }
-    ensures { λ r. ⌜ chosen r ≡ run (answersOf q) (planOf case c) noNotes ⌝ }
-{
-    match case {
-        3 => case_3(q, c),
-        4 => case_4(q, c),
-        6 => case_6(q, c),
-        7 => case_7(q, c),
-        10 => case_10(q, c),
-        12 => case_12(q, c),
-        13 => case_13(q, c),
-        _ => unambiguous(case, c),
-    }
+    part_13(q, c, three(b0, b1, b2) + 8 * three(b3, b4, b5))
 }

@@ -5,9 +5,9 @@ use mathlib.Core.List.{List, [], _∷_}
 use lib.IntN.{ℤ, pos, negsuc, negℤ, natAbs}
 use lib.Dec.{leb, eqb}
 use lib.ListN.{getD}
-use Rattle.choice.specs.Tables.{entry, «TEST_3», «TEST_4», «TEST_6», «TEST_7», «TEST_10», «TEST_12», «TEST_13», «SUB_CONFIG_13»}
-use Rattle.choice.specs.Tilings.{«TILING_1», «TILING_2», «TILING_3_1», «TILING_3_2», «TILING_4_1», «TILING_4_2», «TILING_5», «TILING_6_1_1», «TILING_6_1_2», «TILING_6_2», «TILING_7_1», «TILING_7_2», «TILING_7_3», «TILING_7_4_1», «TILING_7_4_2», «TILING_8», «TILING_9», «TILING_10_1_1», «TILING_10_1_1_», «TILING_10_1_2», «TILING_10_2», «TILING_10_2_», «TILING_11», «TILING_12_1_1», «TILING_12_1_1_», «TILING_12_1_2», «TILING_12_2», «TILING_12_2_», «TILING_13_1», «TILING_13_1_», «TILING_13_2», «TILING_13_2_», «TILING_13_3», «TILING_13_3_», «TILING_13_4», «TILING_13_5_1», «TILING_13_5_2», «TILING_14»}
-use Rattle.choice.specs.Plan.{Plan, nothing, untiled, tile, ask, face, inside, inside13, askInTurn}
+use Rattle.families.specs.Tables.{entry, «TEST_3», «TEST_4», «TEST_6», «TEST_7», «TEST_10», «TEST_12», «TEST_13», «SUB_CONFIG_13»}
+use Rattle.families.specs.Tilings.{«TILING_1», «TILING_2», «TILING_3_1», «TILING_3_2», «TILING_4_1», «TILING_4_2», «TILING_5», «TILING_6_1_1», «TILING_6_1_2», «TILING_6_2», «TILING_7_1», «TILING_7_2», «TILING_7_3», «TILING_7_4_1», «TILING_7_4_2», «TILING_8», «TILING_9», «TILING_10_1_1», «TILING_10_1_1_», «TILING_10_1_2», «TILING_10_2», «TILING_10_2_», «TILING_11», «TILING_12_1_1», «TILING_12_1_1_», «TILING_12_1_2», «TILING_12_2», «TILING_12_2_», «TILING_13_1», «TILING_13_1_», «TILING_13_2», «TILING_13_2_», «TILING_13_3», «TILING_13_3_», «TILING_13_4», «TILING_13_5_1», «TILING_13_5_2», «TILING_14»}
+use Rattle.families.specs.Plan.{Plan, nothing, untiled, tile, ask, face, inside, inside13, askInTurn}
 
 unfoldable pub plan3 : ℕ → Plan
 plan3 c = ask (face (getD «TEST_3» c (pos 0))) (tile «TILING_3_2» c 0) (tile «TILING_3_1» c 0)

@@ -1,0 +1,25 @@
+-- Document 01, 'A choice': what a choice for a case can be. Definitions only.
+use Prim.Native.Nat.{ℕ}
+use mathlib.Core.Bool.{Bool, Bool·beq, _&&_}
+use mathlib.Core.List.{List, [], _∷_}
+use lib.Dec.{eqb, ltb, leb}
+use lib.ListN.{getD}
+use Rattle.families.specs.Tilings.{configurations, tilingsOf, isOneOf, columnsOf, hasCentre}
+use Rattle.families.specs.Plan.{Chosen, empty, noTiling, tiling, refused}
+
+-- how many edge readings a choice for each case makes at most, from case 0
+unfoldable pub readings : List ℕ
+readings = 0 ∷ 0 ∷ 0 ∷ 0 ∷ 3 ∷ 0 ∷ 1 ∷ 3 ∷ 0 ∷ 0 ∷ 1 ∷ 0 ∷ 2 ∷ 0 ∷ 0 ∷ []
+
+-- a tiling of the case, a row and a column that its table has, its centre, and no more unsettled than edge readings;
+-- or what else there is: empty for case 0, no tiling for case 13, and the refusals of a choice
+unfoldable pub inRanges : ℕ → Chosen → Bool
+inRanges case empty = eqb case 0
+inRanges case (noTiling c sub) = eqb case 13 && ltb c 2 && ltb sub 64
+inRanges case (tiling code row column centre m) =
+    isOneOf code (getD tilingsOf case [])
+    && ltb row (getD configurations case 0)
+    && ltb column (columnsOf code)
+    && Bool·beq centre (hasCentre code)
+    && leb (m .unsettled) (getD readings case 0)
+inRanges case (refused n) = isOneOf n (1 ∷ 2 ∷ 3 ∷ 9 ∷ [])

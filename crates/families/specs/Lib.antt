@@ -1,0 +1,5 @@
+pub mod Answers
+pub mod Plan
+pub mod Plans
+pub mod Tables
+pub mod Tilings

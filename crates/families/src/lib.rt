@@ -1,0 +1,59 @@
+// The families of document 01, 'Choice': from a case and one of its configurations to the tiling. An
+// inner routine for the choice, which has tested the family and the cube. Public: `choose`.
+ghost use mathlib.Core.Path.{_≡_};
+ghost use Prim.Native.Nat.{_<_};
+ghost use lib.ListN.{getD};
+ghost use Rattle.notes.specs.Notes.{noNotes};
+ghost use Rattle.families.specs.Tilings.{configurations};
+ghost use Rattle.families.specs.Plan.{run};
+ghost use Rattle.families.specs.Plans.{planOf};
+ghost use Rattle.families.specs.Answers.{answersOf, chosen};
+
+pub mod cases;
+pub mod tilings;
+
+use cases::*;
+use cube::Cube;
+use cube::Refusal;
+use notes::Notes;
+use tilings::*;
+
+// A tiling: its code, row and column, whether it is drawn with the centre, and what was counted.
+pub struct Tiling {
+    pub code: u8,
+    pub row: u8,
+    pub column: u8,
+    pub centre: bool,
+    pub notes: Notes,
+}
+
+// `Untiled` has the configuration and the sub-configuration.
+pub enum Choice {
+    Empty,
+    Untiled(u8, u8),
+    Tiled(Tiling),
+    Refused(Refusal),
+}
+
+// The choice for a configuration of a case.
+pub fn choose(q: Cube, case: u8, c: u8) -> Choice
+    requires { ⌜ c < getD configurations case 0 ⌝ }
+    ensures { λ r. ⌜ chosen r ≡ run (answersOf q) (planOf case c) noNotes ⌝ }
+{
+    match case {
+        1 => plain(TILING_1, c),
+        2 => plain(TILING_2, c),
+        3 => case_3(q, c),
+        4 => case_4(q, c),
+        5 => plain(TILING_5, c),
+        6 => case_6(q, c),
+        7 => case_7(q, c),
+        8 => plain(TILING_8, c),
+        9 => plain(TILING_9, c),
+        10 => case_10(q, c),
+        11 => plain(TILING_11, c),
+        12 => case_12(q, c),
+        13 => case_13(q, c),
+        _ => plain(TILING_14, c),
+    }
+}
