@@ -1,7 +1,9 @@
--- A table's rule is a test that is computed at every index below a bound; this law turns it into the rule at each one. Assumes nothing.
-use mathlib.Core.Path.{subst, sym}
+-- A table's rule is computed at every index below a bound: a test (`under`), or an equation of two lists of values (`agree`). These laws turn it into
+-- the rule at each index. Assumes nothing.
+use mathlib.Core.Path.{_≡_, subst, sym, ap}
 use mathlib.Core.Logic.{inl, inr}
 use mathlib.Core.Bool.{Bool, true, _&&_}
+use mathlib.Core.List.{List, [], _∷_, headD, tail}
 use Prim.Native.Nat.{ℕ, zero, suc, _<_}
 use native.Mathlib.Nat.{eq-or-lt-of-le, le-of-suc-le-suc, not-suc-le-zero}
 use lib.Dec.{T}
@@ -18,3 +20,18 @@ under (suc n) p t k h =
       | inl e ↦ subst (λ (i : ℕ). T (p i)) (sym e) (and-l (p n) (allUnder n p) t)
       | inr l ↦ under n p (and-r (p n) (allUnder n p) t) k l
     ]
+
+module _ {A : Type 0} where
+  -- the values of f below n, from the last
+  abbrev pub valuesOf : (ℕ → A) → ℕ → List A
+  valuesOf f zero = []
+  valuesOf f (suc n) = f n ∷ valuesOf f n
+
+  pub agree : (f g : ℕ → A) (n : ℕ) → valuesOf f n ≡ valuesOf g n → (k : ℕ) → k < n → f k ≡ g k
+  unfolding headD
+  agree f g zero e k h = absurd (not-suc-le-zero h)
+  agree f g (suc n) e k h =
+      elim (eq-or-lt-of-le (le-of-suc-le-suc h)) [
+        | inl i ↦ subst (λ (j : ℕ). f j ≡ g j) (sym i) (ap (λ (xs : List A). headD xs (f n)) e)
+        | inr l ↦ agree f g n (ap tail e) k l
+      ]

@@ -1,8 +1,8 @@
--- The columns of corners as the code has them are document 01's rows of moves: one test over the places, one law. Assumes nothing.
-use mathlib.Core.Path.{_≡_, refl, ap, _∙_}
+-- The rows of moves as numbers, as the code has them, have document 01's moves as digits: one test over the places, one law. Assumes nothing.
+use mathlib.Core.Path.{_≡_, refl, sym, ap, _∙_}
 use mathlib.Core.Bool.{Bool, true, false, cond, _&&_}
-use mathlib.Core.List.{List, [], _∷_}
-use Prim.Native.Nat.{ℕ, _<_, _≤_}
+use mathlib.Core.List.{List, []}
+use Prim.Native.Nat.{ℕ, zero, suc, _+_, _*_, _<_, _≤_}
 use native.Mathlib.Omega.{arith}
 use borrow.Author.Tests.{ltb-true, ltb-false}
 use lib.Dec.{T, ltb, eqb, eqb→eq, lit<}
@@ -14,44 +14,35 @@ use Rattle.cube.specs.Corners.{digitOf, valueAt}
 use Rattle.cube.proofs.Table.{allUnder, under}
 use Rattle.edge.specs.declared.Moves.{Moves}
 use Rattle.edge.specs.Edge.{Move, _⟶_, moves, moveOf}
-use Rattle.edge.specs.Columns.{placeOf, movesOf}
+use Rattle.edge.specs.Columns.{placeOf, packed, rowOf, movesOf}
 
--- the columns of u and of v, for moves 1 to 4
-columns : List Move
-columns =
-    0x3210_2301_0321 ⟶ 0x7654_1032_1230
-    ∷ 0x2103_3710_3715 ⟶ 0x6547_0423_2604
-    ∷ 0x1032_7654_7456 ⟶ 0x5476_4567_6547
-    ∷ 0x0321_6245_4062 ⟶ 0x4765_5176_5173
-    ∷ []
-
--- move j + 1 as the columns have it at a place, and as the rows do
+-- move j + 1 as a number has it, and as the row of a place does
 abbrev digits : ℕ → ℕ → Move
-digits j p = digitOf (getD columns j (0 ⟶ 0) .u) p ⟶ digitOf (getD columns j (0 ⟶ 0) .v) p
+digits j r = digitOf r (2 * j) ⟶ digitOf r (2 * j + 1)
 
 abbrev entry : ℕ → ℕ → Move
 entry j p = getD (getD moves p []) j (0 ⟶ 0)
 
 right : ℕ → ℕ → Bool
-unfolding columns moves
-right j p = eqb (entry j p .u) (digits j p .u) && eqb (entry j p .v) (digits j p .v)
+unfolding rowOf moves
+right j p = eqb (entry j p .u) (digits j (rowOf p) .u) && eqb (entry j p .v) (digits j (rowOf p) .v)
 
--- place 12 has no row, and every column's digit there is 0
+-- place 12 has no row, and its number is 0
 right-under : (j : ℕ) → j < 4 → T (allUnder 13 (right j))
 unfolding right
 right-under = under 4 (λ j. allUnder 13 (right j)) tt
 
-row-digits : (j p : ℕ) → j < 4 → p < 13 → entry j p ≡ digits j p
+row-digits : (j p : ℕ) → j < 4 → p < 13 → entry j p ≡ digits j (rowOf p)
 unfolding right
 row-digits j p h l =
     let t = under 13 (right j) (right-under j h) p l in
-    let us = eqb (entry j p .u) (digits j p .u) in
-    let vs = eqb (entry j p .v) (digits j p .v) in
-    let u = eqb→eq (entry j p .u) (digits j p .u) (and-l us vs t) in
-    let v = eqb→eq (entry j p .v) (digits j p .v) (and-r us vs t) in
+    let us = eqb (entry j p .u) (digits j (rowOf p) .u) in
+    let vs = eqb (entry j p .v) (digits j (rowOf p) .v) in
+    let u = eqb→eq (entry j p .u) (digits j (rowOf p) .u) (and-l us vs t) in
+    let v = eqb→eq (entry j p .v) (digits j (rowOf p) .v) (and-r us vs t) in
     λ i. u i ⟶ v i
 
-none : (j : ℕ) → j < 4 → 0 ⟶ 0 ≡ digits j 12
+none : (j : ℕ) → j < 4 → 0 ⟶ 0 ≡ digits j (rowOf 12)
 unfolding moves
 none j h = row-digits j 12 h (lit< tt)
 
@@ -59,25 +50,42 @@ no-row : (j p : ℕ) → 12 ≤ p → entry j p ≡ 0 ⟶ 0
 unfolding moves
 no-row j p h = ap (λ (row : List Move). getD row j (0 ⟶ 0)) (List·getD-eq-default moves [] h)
 
-digit : (n : ℤ) (j : ℕ) → j < 4 → moveOf n j ≡ digits j (placeOf n)
+digit : (n : ℤ) (j : ℕ) → j < 4 → moveOf n j ≡ digits j (rowOf (placeOf n))
 unfolding moveOf placeOf
 digit (pos n) j h = go (ltb n 12) (ltb-true n 12) (ltb-false n 12)
   where
-    go : (b : Bool) → (b ≡ true → n < 12) → (b ≡ false → 12 ≤ n) → entry j n ≡ digits j (cond b n 12)
+    go : (b : Bool) → (b ≡ true → n < 12) → (b ≡ false → 12 ≤ n) → entry j n ≡ digits j (rowOf (cond b n 12))
     go true l g = let m = l refl in row-digits j n h (omega arith)
     go false l g = no-row j n (g refl) ∙ none j h
 digit (negsuc n) j h = none j h
 
+-- ---- what the code's table has
+pub by-number : {i k : ℕ} → k ≡ i → rowOf i ≡ rowOf k
+by-number e = ap rowOf (sym e)
+
+-- k is none of the numbers below n, as a match tells it
+abbrev pub NoneUnder : ℕ → ℕ → Type 0
+NoneUnder zero k = Unit {0}
+NoneUnder (suc n) k = NoneUnder n k × (k ≡ n → ⊥)
+
+past : (n k : ℕ) → NoneUnder n k → n ≤ k
+past zero k h = omega arith
+past (suc n) k h = let l = past n k (h .0) in let d = h .1 in omega arith
+
+pub past-rows : (k : ℕ) → NoneUnder 12 k → 0 ≡ rowOf k
+unfolding rowOf moves
+past-rows k h = sym (ap packed (List·getD-eq-default moves [] (past 12 k h)))
+
 -- ---- what the code reads
-module _ (vs : List Float) (n : ℤ) (k : ℕ) (ek : k ≡ placeOf n) where
-  at : (end : Move → ℕ) (j : ℕ) → j < 4 → (x : Float) → x ≡ valueAt vs (end (digits j k)) → x ≡ valueAt vs (end (moveOf n j))
-  at end j h x e = rw (e, ek, digit n j h)
+module _ (vs : List Float) (n : ℤ) (k r : ℕ) (ek : k ≡ placeOf n) (er : r ≡ rowOf k) where
+  at : (end : Move → ℕ) (j : ℕ) → j < 4 → (x : Float) → x ≡ valueAt vs (end (digits j r)) → x ≡ valueAt vs (end (moveOf n j))
+  at end j h x e = rw (e, er, ek, digit n j h)
 
   pub moved : (x1 x2 x3 x4 y1 y2 y3 y4 : Float)
-      → x1 ≡ valueAt vs (digitOf 0x3210_2301_0321 k) → x2 ≡ valueAt vs (digitOf 0x2103_3710_3715 k) → x3 ≡ valueAt vs (digitOf 0x1032_7654_7456 k) → x4 ≡ valueAt vs (digitOf 0x0321_6245_4062 k)
-      → y1 ≡ valueAt vs (digitOf 0x7654_1032_1230 k) → y2 ≡ valueAt vs (digitOf 0x6547_0423_2604 k) → y3 ≡ valueAt vs (digitOf 0x5476_4567_6547 k) → y4 ≡ valueAt vs (digitOf 0x4765_5176_5173 k)
+      → x1 ≡ valueAt vs (digitOf r 0) → x2 ≡ valueAt vs (digitOf r 2) → x3 ≡ valueAt vs (digitOf r 4) → x4 ≡ valueAt vs (digitOf r 6)
+      → y1 ≡ valueAt vs (digitOf r 1) → y2 ≡ valueAt vs (digitOf r 3) → y3 ≡ valueAt vs (digitOf r 5) → y4 ≡ valueAt vs (digitOf r 7)
       → _≡_ {A = Moves} (record { u1 = x1; u2 = x2; u3 = x3; u4 = x4; g1 = sub binary32 y1 x1; g2 = sub binary32 y2 x2; g3 = sub binary32 y3 x3; g4 = sub binary32 y4 x4 }) (movesOf (valueAt vs) n)
-  unfolding columns movesOf
+  unfolding movesOf
   moved x1 x2 x3 x4 y1 y2 y3 y4 a1 a2 a3 a4 b1 b2 b3 b4 =
       let u1 = at (λ m. m .u) 0 (lit< tt) x1 a1 in
       let u2 = at (λ m. m .u) 1 (lit< tt) x2 a2 in

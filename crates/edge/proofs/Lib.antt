@@ -1,4 +1,4 @@
 mod Columns
 mod Controls
 mod Places
-mod Readings
+pub mod Readings

@@ -10,7 +10,7 @@ use Rattle.edge.specs.Edge.{Told, rising, beyond, crossed, blank, aOf, b
 use Rattle.edge.specs.Columns.{crossOf, readOf}
 
 -- a move's place at t
-abbrev placeAt : Float → Float → Float → Float
+abbrev pub placeAt : Float → Float → Float → Float
 placeAt u g t = add binary32 u (mul binary32 g t)
 
 -- ---- a NaN t makes the product a NaN, so the code tests the product alone

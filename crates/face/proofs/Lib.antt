@@ -4,5 +4,5 @@ mod Controls
 mod Decision
 pub mod Laws
 mod Meetings
-mod Places
+pub mod Places
 mod Ties

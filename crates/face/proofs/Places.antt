@@ -1,9 +1,8 @@
--- `placeOf` of a face number, by the number taken apart; and by it, what the public routine says. Assumes nothing.
+-- A face's size by the number taken apart, `placeOf` by the size; and by that, what the public routine says. Assumes nothing.
 use mathlib.Core.Path.{_≡_, refl, sym, ap, _∙_, subst}
 use mathlib.Core.Bool.{Bool, true, false, cond, not, _&&_}
 use Prim.Native.Nat.{ℕ, zero, suc, _+_, _≤_, _<_}
 use native.Mathlib.Numerals.{add-one}
-use native.Mathlib.Omega.{arith}
 use borrow.Author.Tests.{le-leb, lt-leb, ne-eqb}
 use lib.IntN.{ℤ, natAbs}
 use lib.Ieee.Fits.{and-r}
@@ -23,21 +22,20 @@ module _ (z : ℤ) (r : Split) (k : ℕ) (f : SFits w8 z) (e : splitValue r ≡ 
   is : (v : Split) → r ≡ v → z ≡ splitValue v
   is v s = sym (toZ-ofZ w8 z f) ∙ sym e ∙ ap splitValue s
 
-  pub up-face : r ≡ NotBelow k → k ≤ 6 → k ≡ placeOf z
-  unfolding placeOf
-  up-face s h = rw (is (NotBelow k) s, le-leb k 6 h)
+  pub not-below : r ≡ NotBelow k → k ≡ natAbs z
+  not-below s = rw (is (NotBelow k) s)
 
-  pub up-none : r ≡ NotBelow k → 6 < k → 0 ≡ placeOf z
-  unfolding placeOf
-  up-none s h = rw (is (NotBelow k) s, lt-leb k 6 h)
+  pub below : r ≡ Below k → k + 1 ≡ natAbs z
+  below s = rw (is (Below k) s, add-one)
 
-  pub down-face : r ≡ Below k → k < 6 → k + 1 ≡ placeOf z
+module _ (z : ℤ) (k : ℕ) (e : k ≡ natAbs z) where
+  pub a-face : k ≤ 6 → k ≡ placeOf z
   unfolding placeOf
-  down-face s h = rw (is (Below k) s, le-leb (suc k) 6 h, add-one)
+  a-face h = rw (← e, le-leb k 6 h)
 
-  pub down-none : r ≡ Below k → 6 ≤ k → 0 ≡ placeOf z
+  pub no-face : 6 < k → 0 ≡ placeOf z
   unfolding placeOf
-  down-none s h = rw (is (Below k) s, lt-leb (suc k) 6 (omega arith))
+  no-face h = rw (← e, lt-leb k 6 h)
 
 -- ---- a number is a face's exactly where its place is not 0
 face-by : (m : ℕ) (b : Bool) → leb 1 m && b ≡ not (eqb (cond b m 0) 0)

@@ -2,7 +2,6 @@
 use mathlib.Core.Bool.{Bool, true, false, cond}
 use mathlib.Core.List.{List, [], _∷_}
 use Prim.Native.Nat.{ℕ, _+_, _≤_}
-use native.Mathlib.Nat.{le-trans}
 use native.Mathlib.Omega.{arith}
 use lib.Dec.{lit≤}
 use lib.IntN.{ℤ}
@@ -12,11 +11,9 @@ use Rattle.cube.specs.declared.Cube.{Cube}
 use Rattle.cube.specs.Corners.{cornerOf}
 use Rattle.edge.specs.Edge.{Told, rising, beyond, crossed, blank, Quotients, edgeBy, quotients}
 use Rattle.notes.specs.Notes.{total}
-use Rattle.interior.specs.declared.Faces.{Faces}
-use Rattle.interior.specs.declared.Faces.the-variants.{One, Two, Three}
 use Rattle.interior.specs.Pick as Pick
 use Rattle.interior.specs.Pick.{Picked, edge, pickBy}
-use Rattle.interior.specs.Interior.{Look, seen, refused, joined, noteOf, seenAs, lookAt, insideBy, insideOf, counted, facesOf}
+use Rattle.interior.specs.Interior.{Look, seen, refused, joined, noteOf, seenAs, lookAt, insideBy, insideOf, counted}
 
 one-or-none : (b : Bool) → cond b 1 0 ≤ 1
 one-or-none true = lit≤ tt
@@ -52,9 +49,3 @@ module _ (K : Numbers) (D : Quotients K) where
 pub inside-bound : (q : Cube) (faces : List ℕ) (s : ℤ) → counted (insideOf q faces s) ≤ length faces
 unfolding insideOf
 inside-bound q faces s = counted-all f32 quotients (cornerOf q) faces s
-
--- the interior test counts 0 to 3
-pub inside-three : (q : Cube) (faces : Faces) (s : ℤ) → counted (insideOf q (facesOf faces) s) ≤ 3
-inside-three q (One k) s = le-trans (inside-bound q (k .0 ∷ []) s) (lit≤ tt)
-inside-three q (Two k l) s = le-trans (inside-bound q (k .0 ∷ l .0 ∷ []) s) (lit≤ tt)
-inside-three q (Three k l m) s = inside-bound q (k .0 ∷ l .0 ∷ m .0 ∷ []) s

@@ -11,13 +11,10 @@ use Rattle.cube.specs.declared.Cube.{Cube}
 use Rattle.cube.specs.Corners.{corners, valueAt, cornerOf}
 use Rattle.edge.specs.Edge.{quotients}
 use Rattle.notes.specs.Notes.{noNotes}
-use Rattle.interior.specs.declared.AmbiguousFace.{AmbiguousFace}
 use Rattle.interior.specs.declared.Diagonals.{Diagonals}
-use Rattle.interior.specs.declared.Faces.{Faces}
-use Rattle.interior.specs.declared.Faces.the-variants.{One, Two, Three}
 use Rattle.interior.specs.Pick.{pickWith, pickBy}
 use Rattle.interior.specs.Diagonals.{diagonalsOf, heldBy}
-use Rattle.interior.specs.Interior.{Look, seen, lookAt, joined, insideBy, insideOf, counted, facesOf}
+use Rattle.interior.specs.Interior.{Look, seen, lookAt, joined, insideBy, insideOf, counted}
 use Rattle.interior.proofs.Bounds.{counted-one, counted-joined}
 use Rattle.interior.proofs.Picks.{same-picks}
 use Rattle.interior.proofs.Sights.{joined-none}
@@ -47,11 +44,11 @@ module _ (vs : List Float) (d : Diagonals) where
     same-looks [] = refl
     same-looks (n ∷ ns) = λ i. joined (same-look n i) (same-looks ns i)
 
-    pub one-face : (fs : Faces) (k : AmbiguousFace) (x : Look) → fs ≡ One k → x ≡ at (k .0) → x ≡ insideOf q (facesOf fs) s
-    one-face fs k x e ex = rw (e, ← same-looks (k .0 ∷ []), joined-none (at (k .0)), ex)
+    pub one-face : (k : ℕ) (x : Look) → x ≡ at k → x ≡ insideOf q (k ∷ []) s
+    one-face k x ex = rw (← same-looks (k ∷ []), joined-none (at k), ex)
 
-    pub two-faces : (fs : Faces) (k l : AmbiguousFace) (x y r : Look) → fs ≡ Two k l → x ≡ at (k .0) → y ≡ at (l .0) → r ≡ joined x y → r ≡ insideOf q (facesOf fs) s
-    two-faces fs k l x y r e ex ey er = rw (e, ← same-looks (k .0 ∷ l .0 ∷ []), joined-none (at (l .0)), er, ex, ey)
+    pub two-faces : (k l : ℕ) (x y r : Look) → x ≡ at k → y ≡ at l → r ≡ joined x y → r ≡ insideOf q (k ∷ l ∷ []) s
+    two-faces k l x y r ex ey er = rw (← same-looks (k ∷ l ∷ []), joined-none (at l), er, ex, ey)
 
-    pub three-faces : (fs : Faces) (k l m : AmbiguousFace) (x y z r t : Look) → fs ≡ Three k l m → x ≡ at (k .0) → y ≡ at (l .0) → z ≡ at (m .0) → r ≡ joined y z → t ≡ joined x r → t ≡ insideOf q (facesOf fs) s
-    three-faces fs k l m x y z r t e ex ey ez er et = rw (e, ← same-looks (k .0 ∷ l .0 ∷ m .0 ∷ []), joined-none (at (m .0)), et, er, ex, ey, ez)
+    pub three-faces : (k l m : ℕ) (x y z r t : Look) → x ≡ at k → y ≡ at l → z ≡ at m → r ≡ joined y z → t ≡ joined x r → t ≡ insideOf q (k ∷ l ∷ m ∷ []) s
+    three-faces k l m x y z r t ex ey ez er et = rw (← same-looks (k ∷ l ∷ m ∷ []), joined-none (at m), et, er, ex, ey, ez)

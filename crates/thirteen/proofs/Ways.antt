@@ -1,13 +1,10 @@
 -- `bothWithin` from the places, and the two ways out of `falseOnly`, as the code comes to them. Assumes nothing.
-use mathlib.Core.Path.{_≡_, refl}
+use mathlib.Core.Path.{_≡_}
 use mathlib.Core.Bool.{Bool, true, false, not, _&&_}
-use lib.Ieee.{Float, binary32, add, sub, mul, div}
+use lib.Ieee.{Float, binary32, add, sub, div}
 use Rattle.edge.specs.declared.Moves.{Moves}
+use Rattle.edge.proofs.Readings.{placeAt}
 use Rattle.thirteen.specs.Thirteen.{within, bothWithin, falseOnly}
-
--- a move's place at t
-abbrev placeAt : Float → Float → Float → Float
-placeAt u g t = add binary32 u (mul binary32 g t)
 
 module _ (m : Moves) (t w1 w2 w3 w4 : Float)
     (e1 : w1 ≡ placeAt (m .u1) (m .g1) t) (e2 : w2 ≡ placeAt (m .u2) (m .g2) t) (e3 : w3 ≡ placeAt (m .u3) (m .g3) t) (e4 : w4 ≡ placeAt (m .u4) (m .g4) t) where

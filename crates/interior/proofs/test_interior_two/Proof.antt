@@ -1,0 +1,34 @@
+-- `interior::test_interior_two` is `insideOf` two faces.
+use borrow.Author.Needs.{needs}
+use Rattle.interior.proofs.Insides.{room-for-two, two-faces}
+use Rattle.interior.proofs.test_interior_two.Statement.{statement}
+use Rattle.interior.proofs.test_interior_two.Tie as tie
+
+values-requires : tie.Need-values-requires
+values-requires c κs = search needs
+
+diagonals-of-requires : tie.Need-diagonals-of-requires
+diagonals-of-requires c κs = search needs
+
+look-requires : tie.Need-look-requires
+look-requires c κs = search needs
+
+look-requires-2 : tie.Need-look-requires-2
+look-requires-2 c κs = search needs
+
+join-requires : tie.Need-join-requires
+join-requires c κs = search room-for-two
+
+returns : tie.Need-returns
+returns c = search two-faces
+
+pub test-interior-two-spec : {M : Type 1} → statement M
+test-interior-two-spec =
+    tie.close
+    (tie.spec
+    values-requires
+    diagonals-of-requires
+    look-requires
+    look-requires-2
+    join-requires
+    returns)
