@@ -1,0 +1,6 @@
+mod Centres
+mod Columns
+mod Families
+mod Runs
+mod Settling
+mod TwoFaces

@@ -1,0 +1,126 @@
+-- `families::cases::case_12` follows `plan12`.
+use mathlib.Core.Path.{refl, _∙_}
+use borrow.Author.Needs.{needs}
+use Rattle.families.specs.Tables.{entry, «TEST_12»}
+use Rattle.families.proofs.Columns.{in-rows}
+use Rattle.families.proofs.Runs.{twelve}
+use Rattle.families.proofs.TwoFaces.{two-faces, by-first, by-second, by-both, by-none}
+use Rattle.families.proofs.cases.case_12.Statement.{statement}
+use Rattle.families.proofs.cases.case_12.Tie as tie
+
+cast-i : tie.Need-cast-i
+cast-i c = search needs
+
+cast-k : tie.Need-cast-k
+cast-k c = search needs
+
+mul-t15 : tie.Need-mul-t15
+mul-t15 c = search needs
+
+index-1-t20 : tie.Need-index-1-t20
+index-1-t20 c = search needs
+
+index-2-t20 : tie.Need-index-2-t20
+index-2-t20 c = search needs
+
+mul-t15-2 : tie.Need-mul-t15-2
+mul-t15-2 c = search needs
+
+index-1-t20-2 : tie.Need-index-1-t20-2
+index-1-t20-2 c = search needs
+
+index-2-t20-2 : tie.Need-index-2-t20-2
+index-2-t20-2 c = search needs
+
+face-answer-requires : tie.Need-face-answer-requires
+face-answer-requires c κs = search needs
+
+face-answer-requires-2 : tie.Need-face-answer-requires-2
+face-answer-requires-2 c κs = search needs
+
+plain-requires : tie.Need-plain-requires
+plain-requires c κs = search needs
+
+returns : tie.Need-returns
+unfolding «TEST_12»
+returns c =
+    let c0 = c .before .before in
+    let h = c0 .before .before .before .before .pre in
+    c .plain .ensures ∙ by-first _ _ _ _ _ _ _ _ _ _ _ _ (twelve _ _ _ h (in-rows (λ k. entry «TEST_12» k 0) 3 24 refl _ h) (in-rows (λ k. entry «TEST_12» k 1) 3 24 refl _ h)) _ _ (c0 .before .face-answer .ensures .0) (c0 .face-answer2 .ensures .0) (c .before .if1 .taken)
+
+plain-requires-2 : tie.Need-plain-requires-2
+plain-requires-2 c κs = search needs
+
+returns-2 : tie.Need-returns-2
+unfolding «TEST_12»
+returns-2 c =
+    let c0 = c .before .before .before in
+    let h = c0 .before .before .before .before .pre in
+    c .plain2 .ensures ∙ by-second _ _ _ _ _ _ _ _ _ _ _ _ (twelve _ _ _ h (in-rows (λ k. entry «TEST_12» k 0) 3 24 refl _ h) (in-rows (λ k. entry «TEST_12» k 1) 3 24 refl _ h)) _ _ (c0 .before .face-answer .ensures .0) (c0 .face-answer2 .ensures .0) (c .before .if2 .taken)
+
+ambiguous-requires : tie.Need-ambiguous-requires
+ambiguous-requires c κs = search needs
+
+ambiguous-requires-2 : tie.Need-ambiguous-requires-2
+ambiguous-requires-2 c κs = search needs
+
+side-requires : tie.Need-side-requires
+side-requires c κs = search needs
+
+test-interior-two-requires : tie.Need-test-interior-two-requires
+test-interior-two-requires c κs = search needs
+
+sub-settle : tie.Need-sub-settle
+sub-settle c = search needs
+
+settle-requires : tie.Need-settle-requires
+settle-requires c κs = search needs
+
+returns-3 : tie.Need-returns-3
+unfolding «TEST_12»
+returns-3 c =
+    let c1 = c .before .before .before .before .before in
+    let c0' = c1 .before in
+    let c0 = c0' .before .before in
+    let h = c0 .before .before .before .before .pre in
+    c .settle .ensures ∙ by-both _ _ _ _ _ _ _ _ _ _ _ _ (twelve _ _ _ h (in-rows (λ k. entry «TEST_12» k 0) 3 24 refl _ h) (in-rows (λ k. entry «TEST_12» k 1) 3 24 refl _ h)) _ _ (c0 .before .face-answer .ensures .0) (c0 .face-answer2 .ensures .0) (c0' .before .if1 .left) (c0' .if2 .left) _ (c .before .before .before .side .ensures) _ (two-faces _ _ _ _ (c1 .ambiguous .ensures) (c .before .before .before .before .ambiguous2 .ensures)) _ (c .before .before .test-interior-two .ensures) (c .before .if3 .taken)
+
+settle-requires-2 : tie.Need-settle-requires-2
+settle-requires-2 c κs = search needs
+
+returns-4 : tie.Need-returns-4
+unfolding «TEST_12»
+returns-4 c =
+    let c1 = c .before .before .before .before .before in
+    let c0' = c1 .before in
+    let c0 = c0' .before .before in
+    let h = c0 .before .before .before .before .pre in
+    c .settle2 .ensures ∙ by-none _ _ _ _ _ _ _ _ _ _ _ _ (twelve _ _ _ h (in-rows (λ k. entry «TEST_12» k 0) 3 24 refl _ h) (in-rows (λ k. entry «TEST_12» k 1) 3 24 refl _ h)) _ _ (c0 .before .face-answer .ensures .0) (c0 .face-answer2 .ensures .0) (c0' .before .if1 .left) (c0' .if2 .left) _ (c .before .before .before .side .ensures) _ (two-faces _ _ _ _ (c1 .ambiguous .ensures) (c .before .before .before .before .ambiguous2 .ensures)) _ (c .before .before .test-interior-two .ensures) (c .before .if3 .left)
+
+pub case-12-spec : {M : Type 1} → statement M
+case-12-spec =
+    tie.close
+    (tie.spec
+    cast-i
+    cast-k
+    mul-t15
+    index-1-t20
+    index-2-t20
+    mul-t15-2
+    index-1-t20-2
+    index-2-t20-2
+    face-answer-requires
+    face-answer-requires-2
+    plain-requires
+    returns
+    plain-requires-2
+    returns-2
+    ambiguous-requires
+    ambiguous-requires-2
+    side-requires
+    test-interior-two-requires
+    sub-settle
+    settle-requires
+    returns-3
+    settle-requires-2
+    returns-4)
