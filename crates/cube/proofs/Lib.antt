@@ -1,3 +1,3 @@
-mod Bounds
+pub mod Bounds
 pub mod Signs
 pub mod Table

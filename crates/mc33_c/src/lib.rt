@@ -4,9 +4,13 @@ ghost use mathlib.Core.Path.{_≡_};
 ghost use Rattle.root.specs.Root.{rootBits};
 ghost use Rattle.root.specs.Special.{SpecialBits};
 ghost use Rattle.face.specs.Face.{testFaceOf};
-ghost use Rattle.edge.specs.Edge.{edgeReadingOf};
+ghost use Rattle.edge.specs.Edge.{told, edgeReadingOf};
+ghost use Rattle.cube.specs.Bits.{bitOf};
+ghost use Rattle.cube.specs.Refusals.{refusalNumber};
+ghost use Rattle.families.specs.Plan.{refused};
+ghost use Rattle.families.specs.Answers.{chosen};
 ghost use Rattle.choice.specs.Choice.{choiceOf};
-ghost use Rattle.mc33_c.specs.Answers.{choiceNumbers, faceNumbers, edgeNumbers};
+ghost use Rattle.mc33_c.specs.Answers.{answered, choiceNumbers, faceNumbers, readAs, readingNumbers, edgeNumbers};
 use cube::Cube;
 use cube::EdgeNo;
 use cube::Face;
@@ -66,38 +70,37 @@ fn no_choice(why: Refusal) -> Mc33Choice
     }
 }
 
+fn answered(code: u8, row: u8, column: u8, centre: bool, unsettled: u8) -> Mc33Choice
+    ensures { λ r. ⌜ r ≡ answered code row column (bitOf centre) unsettled ⌝ }
+{
+    Mc33Choice {
+        refusal: 0,
+        code: code,
+        row: row,
+        column: column,
+        centre: centre as u8,
+        unsettled: unsettled,
+    }
+}
+
+// A choice as numbers.
+fn choice_numbers(choice: Choice) -> Mc33Choice
+    ensures { λ r. ⌜ r ≡ choiceNumbers (chosen choice) ⌝ }
+{
+    match choice {
+        Choice::Empty => answered(0, 0, 0, false, 0),
+        Choice::Untiled(c, sub) => answered(255, c, sub, false, 0),
+        Choice::Tiled(t) => answered(t.code, t.row, t.column, t.centre, t.notes.unsettled),
+        Choice::Refused(why) => no_choice(why),
+    }
+}
+
 // The choice for a case, a configuration and a cube.
 #[no_mangle]
 pub extern "C" fn mc33_choose(case: i8, configuration: i8, cube: Cube) -> Mc33Choice
     ensures { λ r. ⌜ r ≡ choiceNumbers (choiceOf case configuration cube) ⌝ }
 {
-    match choice::handle_cube(case, configuration, cube) {
-        Choice::Empty => Mc33Choice {
-            refusal: 0,
-            code: 0,
-            row: 0,
-            column: 0,
-            centre: 0,
-            unsettled: 0,
-        },
-        Choice::Untiled(c, sub) => Mc33Choice {
-            refusal: 0,
-            code: 255,
-            row: c,
-            column: sub,
-            centre: 0,
-            unsettled: 0,
-        },
-        Choice::Tiled(t) => Mc33Choice {
-            refusal: 0,
-            code: t.code,
-            row: t.row,
-            column: t.column,
-            centre: t.centre as u8,
-            unsettled: t.notes.unsettled,
-        },
-        Choice::Refused(why) => no_choice(why),
-    }
+    choice_numbers(choice::handle_cube(case, configuration, cube))
 }
 
 // The face test of a signed face number.
@@ -117,21 +120,26 @@ pub extern "C" fn mc33_face(cube: Cube, face: i8) -> Mc33Face
     }
 }
 
-fn edge_numbers(refusal: u8, kind: u8, t: f32, product: f32) -> Mc33Edge {
+fn read(kind: u8, t: f32, product: f32) -> Mc33Edge
+    ensures { λ r. ⌜ r ≡ readAs kind t product ⌝ }
+{
     Mc33Edge {
-        refusal: refusal,
+        refusal: 0,
         kind: kind,
         t: t,
         product: product,
     }
 }
 
-fn reading_numbers(r: Reading) -> Mc33Edge {
+// A reading as numbers.
+fn reading_numbers(r: Reading) -> Mc33Edge
+    ensures { λ x. ⌜ x ≡ readingNumbers (told r) ⌝ }
+{
     match r {
-        Reading::Rising => edge_numbers(0, 1, 0.0, 0.0),
-        Reading::Beyond(t) => edge_numbers(0, 2, t, 0.0),
-        Reading::Crossed(t, product) => edge_numbers(0, 3, t, product),
-        Reading::Blank => edge_numbers(0, 4, 0.0, 0.0),
+        Reading::Rising => read(1, 0.0, 0.0),
+        Reading::Beyond(t) => read(2, t, 0.0),
+        Reading::Crossed(t, product) => read(3, t, product),
+        Reading::Blank => read(4, 0.0, 0.0),
     }
 }
 
@@ -142,6 +150,11 @@ pub extern "C" fn mc33_edge(cube: Cube, edge: i8) -> Mc33Edge
 {
     match edge::interior_ambiguity_verification(cube, EdgeNo(edge)) {
         EdgeAnswer::Read(r) => reading_numbers(r),
-        EdgeAnswer::Refused(why) => edge_numbers(cube::number(why), 0, 0.0, 0.0),
+        EdgeAnswer::Refused(why) => Mc33Edge {
+            refusal: cube::number(why),
+            kind: 0,
+            t: 0.0,
+            product: 0.0,
+        },
     }
 }

@@ -1,0 +1,44 @@
+-- The answers of the C interface as numbers, from what the routines' own promises say. Definitions only.
+use Prim.Native.Nat.{ℕ}
+use mathlib.Core.Bool.{Bool, false}
+use lib.IntN.{pos}
+use lib.Ieee.{Float, fin}
+use Rattle.cube.specs.Bits.{bitOf}
+use Rattle.face.specs.Face as Face
+use Rattle.edge.specs.Edge.{Told, rising, beyond, crossed, blank}
+use Rattle.edge.specs.Edge as Edge
+use Rattle.families.specs.Plan.{Chosen, empty, noTiling, tiling, refused}
+use Rattle.mc33_c.specs.declared.Mc33Choice.{Mc33Choice}
+use Rattle.mc33_c.specs.declared.Mc33Face.{Mc33Face}
+use Rattle.mc33_c.specs.declared.Mc33Edge.{Mc33Edge}
+
+abbrev pub answered : ℕ → ℕ → ℕ → ℕ → ℕ → Mc33Choice
+answered code row column centre unsettled = record { refusal = 0; code = code; row = row; column = column; centre = centre; unsettled = unsettled }
+
+-- document 01, 'Program': the fields of a tiling; empty is five zeros; no tiling is 255, configuration, sub-configuration, 0, 0
+unfoldable pub choiceNumbers : Chosen → Mc33Choice
+choiceNumbers empty = answered 0 0 0 0 0
+choiceNumbers (noTiling c sub) = answered 255 c sub 0 0
+choiceNumbers (tiling code row column centre m) = answered code row column (bitOf centre) (m .unsettled)
+choiceNumbers (refused n) = record { refusal = n; code = 0; row = 0; column = 0; centre = 0; unsettled = 0 }
+
+unfoldable pub faceNumbers : Face.Said → Mc33Face
+faceNumbers (Face.answer b) = record { refusal = 0; answer = bitOf b }
+faceNumbers (Face.refused n) = record { refusal = n; answer = 0 }
+
+abbrev nought : Float
+nought = fin false 0 (pos 0)
+
+abbrev pub readAs : ℕ → Float → Float → Mc33Edge
+readAs kind t p = record { refusal = 0; kind = kind; t = t; product = p }
+
+-- 1 rising, 2 beyond, 3 crossed, 4 blank
+unfoldable pub readingNumbers : Told Float → Mc33Edge
+readingNumbers rising = readAs 1 nought nought
+readingNumbers (beyond t) = readAs 2 t nought
+readingNumbers (crossed t p) = readAs 3 t p
+readingNumbers blank = readAs 4 nought nought
+
+unfoldable pub edgeNumbers : Edge.Said → Mc33Edge
+edgeNumbers (Edge.reading r) = readingNumbers r
+edgeNumbers (Edge.refused n) = record { refusal = n; kind = 0; t = nought; product = nought }
