@@ -1,0 +1,5 @@
+mod Controls
+mod Families
+mod Ranges
+mod Refusals
+mod Starred

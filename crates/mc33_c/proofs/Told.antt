@@ -18,7 +18,10 @@ use Rattle.edge.specs.declared.EdgeAnswer.{EdgeAnswer}
 use Rattle.edge.specs.declared.EdgeAnswer.the-variants as Edge
 use Rattle.edge.specs.Edge as Edges
 use Rattle.edge.specs.Edge.{told, edgeReadingOf}
+use Rattle.families.specs.declared.Choice.{Choice}
 use Rattle.families.specs.Plan.{refused}
+use Rattle.families.specs.Answers.{chosen}
+use Rattle.choice.specs.Choice.{choiceOf}
 use Rattle.mc33_c.specs.declared.Mc33Choice.{Mc33Choice}
 use Rattle.mc33_c.specs.declared.Mc33Face.{Mc33Face}
 use Rattle.mc33_c.specs.declared.Mc33Edge.{Mc33Edge}
@@ -51,3 +54,6 @@ module _ (q : Cube) (z y : ℤ) (e : z ≡ y) (r : EdgeAnswer) (s : Edges.said r
       → record { refusal = n; kind = 0; t = ofBits binary32 0; product = ofBits binary32 0 } ≡ edgeNumbers (edgeReadingOf q y)
   unfolding edgeNumbers ofBits
   edge-refused why f n g = rw (sym e, sym s, f, g)
+
+pub chose : (z y c d : ℤ) → z ≡ y → c ≡ d → (q : Cube) (r : Choice) → chosen r ≡ choiceOf z c q → (m : Mc33Choice) → m ≡ choiceNumbers (chosen r) → m ≡ choiceNumbers (choiceOf y d q)
+chose z y c d e f q r s m g = rw (g, s, e, f)

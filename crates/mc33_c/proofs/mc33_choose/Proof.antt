@@ -1,7 +1,8 @@
 -- `mc33_c::mc33_choose` gives the numbers of `choiceOf`.
-use mathlib.Core.Path.{ap, _∙_}
 use borrow.Author.Needs.{needs}
-use Rattle.mc33_c.specs.Answers.{choiceNumbers}
+use mir.Syntax.{w8}
+use mir.ValLaws.{toZ-ofZ}
+use Rattle.mc33_c.proofs.Told.{chose}
 use Rattle.mc33_c.proofs.mc33_choose.Statement.{statement}
 use Rattle.mc33_c.proofs.mc33_choose.Tie as tie
 
@@ -12,7 +13,9 @@ choice-numbers-requires : tie.Need-choice-numbers-requires
 choice-numbers-requires c κs = search needs
 
 returns : tie.Need-returns
-returns c = c .choice-numbers .ensures ∙ ap choiceNumbers (c .before .handle-cube .ensures .0)
+returns c =
+    let fits = c .before .before .fits in
+    chose _ _ _ _ (toZ-ofZ w8 _ (fits .case)) (toZ-ofZ w8 _ (fits .configuration)) _ (c .before .handle-cube .result) (c .before .handle-cube .ensures .0) _ (c .choice-numbers .ensures)
 
 pub mc33-choose-spec : {M : Type 1} → statement M
 mc33-choose-spec = tie.close (tie.spec handle-cube-requires choice-numbers-requires returns)

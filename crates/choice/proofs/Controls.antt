@@ -1,0 +1,209 @@
+-- That the definitions say something, by computation: each refusal, at its edges and in document 01's order; each of the 38 tilings; each number of unsettled
+-- readings that the ranges allow; what the ranges do not allow. Values are written as bits. Assumes nothing.
+use mathlib.Core.Path.{_≡_, refl}
+use mathlib.Core.Bool.{Bool, true, false, cond}
+use mathlib.Core.List.{List, [], _∷_, _++_, map, foldr}
+use Prim.Native.Nat.{ℕ}
+use lib.Dec.{eqb}
+use lib.IntN.{ℤ, pos, negsuc}
+use lib.Ieee.{ofBits, neg, add, sub, mul, div, lt, eq, le, isNan, ofInt}
+use Rattle.root.specs.Root.{rootWithin, wholeRoot, rootUnits, rootOf}
+use Rattle.cube.specs.declared.Cube.{Cube}
+use Rattle.cube.specs.Corners.{corners, valueAt, cornerOf, allFinite}
+use Rattle.face.specs.Face.{faceCorners, faceCorner, rule, faceBy, faceOf}
+use Rattle.edge.specs.Edge.{moves, moveOf, crossBy, readBy, edgeBy}
+use Rattle.edge.specs.Columns.{movesOf}
+use Rattle.interior.specs.Pick.{diagonals, lastMatch, pickWith, pickBy}
+use Rattle.interior.specs.Interior.{joined, noteOf, seenAs, lookAt, insideBy, insideOf}
+use Rattle.thirteen.specs.Thirteen.{bothWithin, falseOnly, case13By, case13Of}
+use Rattle.families.specs.Tables.{«TEST_3», «TEST_4», «TEST_6», «TEST_7», «TEST_10», «TEST_12», «TEST_13», «SUB_CONFIG_13»}
+use Rattle.families.specs.Tilings.{configurations, tilingsOf, columnsOf, hasCentre}
+use Rattle.families.specs.Plan.{askInTurn, Chosen, empty, noTiling, tiling, refused, settled, run}
+use Rattle.families.specs.Plans.{plan3, plan4, plan6, part7, plan7, twoFaces, plan10, plan12, parts13, lastFrom, tile13, part13, plan13, plans, planOf}
+use Rattle.choice.specs.Choice.{choiceOf}
+use Rattle.choice.specs.Ranges.{readings, inRanges}
+use Rattle.choice.specs.Starred.{cube}
+
+record Test : Type 0 where
+  case : ℤ
+  configuration : ℤ
+  q : Cube
+  says : Chosen
+
+abbrev test : ℤ → ℤ → Cube → Chosen → Test
+test k c q s = record { case = k; configuration = c; q = q; says = s }
+
+-- code, row, column, centre and unsettled
+abbrev tiled : ℕ → ℕ → Cube → ℕ → ℕ → ℕ → Bool → ℕ → Test
+tiled k c q code row column centre unsettled = test (pos k) (pos c) q (tiling code row column centre (record { unsettled = unsettled }))
+
+-- ---- refusals: all ones, but for the value b at corner k
+abbrev with : ℕ → ℕ → Cube
+with b k =
+    let at : ℕ → ℕ = λ i. cond (eqb i k) b 0x3f800000 in
+    cube (at 0) (at 1) (at 2) (at 3) (at 4) (at 5) (at 6) (at 7)
+
+abbrev ones : Cube
+ones = with 0x3f800000 0
+
+abbrev spoilt : Cube
+spoilt = with 0x7fc00000 7
+
+refusals : List Test
+refusals =
+    -- case below 0 or above 14; and before 2 and 3
+    test (pos 15) (pos 0) ones (refused 1)
+    ∷ test (negsuc 0) (pos 0) ones (refused 1)
+    ∷ test (negsuc 127) (pos 0) ones (refused 1)
+    ∷ test (pos 127) (pos 0) ones (refused 1)
+    ∷ test (negsuc 0) (negsuc 0) ones (refused 1)
+    ∷ test (pos 15) (pos 99) spoilt (refused 1)
+    -- configuration not one of the case's; and before 3
+    ∷ test (pos 4) (pos 8) ones (refused 2)
+    ∷ test (pos 0) (pos 0) ones (refused 2)
+    ∷ test (pos 0) (negsuc 1) ones (refused 2)
+    ∷ test (pos 3) (negsuc 0) ones (refused 2)
+    ∷ test (pos 13) (pos 2) ones (refused 2)
+    ∷ test (pos 14) (pos 12) ones (refused 2)
+    ∷ test (pos 1) (negsuc 127) ones (refused 2)
+    ∷ test (pos 4) (pos 8) spoilt (refused 2)
+    -- a corner NaN or infinite
+    ∷ test (pos 4) (pos 7) spoilt (refused 3)
+    ∷ test (pos 0) (negsuc 0) spoilt (refused 3)
+    ∷ test (pos 1) (pos 0) (with 0xff800001 3) (refused 3)
+    -- and no refusal: case 0, and the last finite values
+    ∷ test (pos 0) (negsuc 0) ones empty
+    ∷ tiled 14 11 (cube 0x7f7fffff 0xff7fffff 1 0x80000001 0 0x80000000 0x007fffff 0x00800000) 38 11 0 false 0
+    ∷ []
+
+refusals-hold : map (λ t. choiceOf (t .case) (t .configuration) (t .q)) refusals ≡ map (λ t. t .says) refusals
+unfolding refusals choiceOf run planOf plans configurations hasCentre corners allFinite ofBits
+refusals-hold = refl
+
+-- a NaN and each infinity, at each corner
+corner-numbers : List ℕ
+corner-numbers = 0 ∷ 1 ∷ 2 ∷ 3 ∷ 4 ∷ 5 ∷ 6 ∷ 7 ∷ []
+
+not-finite : List ℕ
+not-finite = 0x7fc00000 ∷ 0x7f800000 ∷ 0xff800000 ∷ []
+
+all-refused : map (λ b. map (λ k. choiceOf (pos 1) (pos 0) (with b k)) corner-numbers) not-finite ≡ map (λ b. map (λ k. refused 3) corner-numbers) not-finite
+unfolding corner-numbers not-finite choiceOf configurations corners allFinite ofBits
+all-refused = refl
+
+-- ---- choices, as the Rust makes them
+choices : List Test
+choices =
+    -- document 01's cubes that are not starred, and its third sample line
+    tiled 4 0 ones 6 0 0 false 0
+    ∷ tiled 12 0 (cube 0x3f800000 0x3f800000 0x3f800000 0xbf800000 0xbf800000 0xbf800000 0xbf800000 0x3f800000) 26 23 0 false 0
+    ∷ test (pos 13) (pos 0) (cube 0x3f800000 0x40000000 0x3f800000 0x40000000 0x3f800000 0x40800000 0x3f800000 0x40800000) (noTiling 0 5)
+    -- docs/DIFFERENCES.md, F8
+    ∷ tiled 13 0 (cube 0x40a00000 0xc0400000 0x40000000 0xc0400000 0xc0400000 0x40000000 0xbf800000 0x3f800000) 37 1 0 false 0
+    -- no tiling of the other configuration
+    ∷ test (pos 13) (pos 1) (cube 0x40000000 0x3f800000 0x40000000 0x3f800000 0x3f800000 0xc0000000 0xbf800000 0xbf800000) (noTiling 1 21)
+    -- tilings 1 to 38
+    ∷ tiled 1 6 (cube 0xc0000000 0xc0000000 0xc0000000 0xc0000000 0x3f800000 0xc0000000 0xc0000000 0xc0000000) 1 6 0 false 0
+    ∷ tiled 2 6 (cube 0xc0000000 0xc0000000 0xc0000000 0xc0000000 0xc0000000 0xc0000000 0xc0000000 0xc0000000) 2 6 0 false 0
+    ∷ tiled 3 6 (cube 0xc0000000 0x3f800000 0xc0000000 0xc0000000 0xc0000000 0xc0000000 0xc0000000 0xc0000000) 3 6 0 false 0
+    ∷ tiled 3 11 (cube 0xc0000000 0xc0000000 0xc0000000 0xbf800000 0xc0000000 0x40000000 0xc0000000 0x40000000) 4 11 0 false 0
+    ∷ tiled 4 7 (cube 0xc0000000 0x40400000 0x40000000 0x40400000 0x40000000 0x40000000 0xbf800000 0x40000000) 5 7 0 false 0
+    ∷ tiled 4 0 (cube 0x41100000 0xc0a00000 0x40000000 0x40000000 0xc0a00000 0xc0800000 0x41100000 0) 6 0 0 false 0
+    ∷ tiled 5 20 (cube 0xc0000000 0xc0000000 0xc0000000 0xc0000000 0xc0000000 0x40000000 0xc0000000 0xc0000000) 7 20 0 false 0
+    ∷ tiled 6 13 (cube 0xc0000000 0x40000000 0xc0000000 0xc0000000 0xc0000000 0xc0000000 0xc0000000 0xc0000000) 8 13 0 false 0
+    ∷ tiled 6 45 (cube 0x40000000 0x40000000 0x40000000 0x40000000 0x40000000 0x40000000 0x40000000 0x40000000) 9 45 0 false 0
+    ∷ tiled 6 5 (cube 0xc0000000 0xc0000000 0xc0000000 0xc0000000 0xc0000000 0xc0000000 0xc0000000 0xc0000000) 10 5 0 false 0
+    ∷ tiled 7 12 (cube 0xc0000000 0xc0000000 0xc0000000 0xc0000000 0xc0000000 0xc0000000 0xbf800000 0xc0000000) 11 12 0 false 0
+    ∷ tiled 7 13 (cube 0xc0000000 0xc0000000 0xc0000000 0xc0000000 0xbf800000 0xc0000000 0xc0000000 0xc0000000) 12 13 1 false 0
+    ∷ tiled 7 14 (cube 0x40000000 0x40000000 0x3f800000 0x40000000 0x40000000 0x40000000 0x40000000 0x40000000) 13 14 1 true 0
+    ∷ tiled 7 1 (cube 0x40000000 0xbf800000 0x40000000 0x40000000 0x40000000 0x40000000 0x40000000 0x40000000) 14 1 0 false 0
+    ∷ tiled 7 6 (cube 0xc0000000 0xc0400000 0x40400000 0xbf800000 0xbf800000 0x40000000 0xc0000000 0x40000000) 15 6 0 false 0
+    ∷ tiled 8 0 (cube 0xc0000000 0xc0000000 0xc0000000 0xc0000000 0xc0000000 0xc0000000 0xc0000000 0xc0000000) 16 0 0 false 0
+    ∷ tiled 9 4 (cube 0xc0000000 0xc0000000 0xc0000000 0xc0000000 0xc0000000 0xbf800000 0xc0000000 0xc0000000) 17 4 0 false 0
+    ∷ tiled 10 2 (cube 0x3f800000 0xc0000000 0xc0000000 0x3f800000 0xc0400000 0x40000000 0x40000000 0xc0000000) 18 2 0 false 0
+    ∷ tiled 10 3 (cube 0xc0000000 0x3f800000 0x40400000 0xc0000000 0x40400000 0xbf800000 0xbf800000 0x40000000) 19 3 0 false 0
+    ∷ tiled 10 2 (cube 0xc0000000 0xc0000000 0xc0000000 0xc0000000 0xc0000000 0xc0000000 0xc0000000 0xc0000000) 20 3 0 false 0
+    ∷ tiled 10 5 (cube 0xc0000000 0xc0000000 0xc0000000 0x40000000 0xc0000000 0xc0000000 0xc0000000 0xc0000000) 21 5 0 true 0
+    ∷ tiled 10 3 (cube 0x40000000 0x40000000 0x40000000 0x40000000 0x40000000 0 0x40000000 0x40000000) 22 3 0 true 0
+    ∷ tiled 11 1 (cube 0xc0000000 0xc0000000 0xc0000000 0xc0000000 0xc0000000 0xc0000000 0xc0000000 0xc0000000) 23 1 0 false 0
+    ∷ tiled 12 2 (cube 0x40000000 0x40000000 0xc0000000 0xc0000000 0x40000000 0xc0400000 0x3f800000 0xbf800000) 24 2 0 false 0
+    ∷ tiled 12 14 (cube 0xc0000000 0xbf800000 0xc0000000 0xc0000000 0xc0000000 0xc0000000 0xc0000000 0xc0000000) 25 14 0 false 0
+    ∷ tiled 12 9 (cube 0xc0000000 0xc0000000 0xc0000000 0xc0000000 0xc0000000 0xc0000000 0xc0000000 0xc0000000) 26 14 0 false 0
+    ∷ tiled 12 6 (cube 0x40000000 0xc0400000 0x40400000 0xc0000000 0x40000000 0xc0000000 0xc0000000 0x3f800000) 27 6 0 true 0
+    ∷ tiled 12 21 (cube 0xc0400000 0xbf800000 0x40000000 0x40000000 0xc0000000 0x3f800000 0xc0000000 0x40000000) 28 21 0 true 0
+    ∷ tiled 13 0 (cube 0x40e00000 0xc1400000 0x3f800000 0xc1400000 0xc1400000 0x40400000 0xc1100000 0x3f800000) 29 0 0 false 0
+    ∷ tiled 13 1 (cube 0xc0000000 0x40400000 0xbf800000 0x3f800000 0x40000000 0xc0000000 0x3f800000 0xbf800000) 30 1 0 false 0
+    ∷ tiled 13 1 (cube 0xc0000000 0x40000000 0xc0000000 0x40000000 0x3f800000 0xc0000000 0x3f800000 0xc0400000) 31 1 4 false 0
+    ∷ tiled 13 0 (cube 0xc0000000 0xc0000000 0xc0000000 0xc0000000 0xbf800000 0xc0000000 0xc0000000 0xc0000000) 32 0 0 false 0
+    ∷ tiled 13 0 (cube 0x3f800000 0xc0000000 0x40400000 0xc0000000 0xc0400000 0x3f800000 0xbf800000 0x40000000) 33 0 4 true 0
+    ∷ tiled 13 0 (cube 0xc0000000 0xc0000000 0x40000000 0xc0000000 0xc0000000 0xc0000000 0xc0000000 0xc0000000) 34 0 4 true 0
+    ∷ tiled 13 0 (cube 0x40000000 0xbf800000 0x40000000 0xc0000000 0xc0400000 0x3f800000 0xc0000000 0x40000000) 35 0 2 true 0
+    ∷ tiled 13 0 (cube 0x3f800000 0xc0400000 0x40400000 0xc0400000 0xc0000000 0x40000000 0xc0000000 0x40000000) 36 0 2 false 0
+    ∷ tiled 13 0 (cube 0x3f800000 0xc1100000 0x41100000 0xc0e00000 0xc1400000 0x41200000 0xc0e00000 0x41100000) 37 1 2 false 0
+    ∷ tiled 14 0 (cube 0xc0000000 0x40000000 0x40000000 0x40000000 0x40000000 0x40000000 0x40000000 0x40000000) 38 0 0 false 0
+    -- unsettled
+    ∷ tiled 4 3 (cube 0x40000000 0 0x40000000 0x40000000 0x3f800000 0x80000000 0x3f800000 0) 5 3 0 false 2
+    ∷ tiled 4 7 (cube 0x80000000 0xbf800000 0xc0000000 0x3f800000 0x40000000 0xc0000000 0xc0000000 0x40000000) 6 7 0 false 3
+    ∷ tiled 6 16 (cube 0x80000000 0 0xc0000000 0x40000000 0xbf800000 0x3f800000 0x3f800000 0xc0000000) 9 16 0 false 1
+    ∷ tiled 7 7 (cube 0xbf800001 0xb4000000 0xbf800000 0x3f800000 0x34000001 0xbf800000 0x3f7fffff 0xb3ffffff) 14 7 0 false 2
+    ∷ tiled 7 3 (cube 0xbf800000 0x80000000 0 0x3f800000 0 0x3f800000 0xbf800000 0) 15 3 0 false 1
+    ∷ tiled 7 6 (cube 0xbf800000 0xbf800000 0x3f800000 0xc0400000 0xc0000000 0x40000000 0xbf800000 0x40400000) 15 6 0 false 3
+    ∷ tiled 10 0 (cube 0x3f800000 0xbf800000 0 0x80000000 0x80000000 0 0x3f800000 0xbf800000) 20 5 0 false 1
+    ∷ tiled 12 17 (cube 0xdea23992 0x5ea39ea3 0xdeb69bb8 0x5cc355d0 0xbf0eef7a 0x3db25df0 0x3eac2bb6 0xbf514953) 24 17 0 false 1
+    ∷ tiled 12 14 (cube 0xc0000000 0 0xc0000000 0 0x40000000 0xbf800000 0x40000000 0x80000000) 26 9 0 false 2
+    ∷ []
+
+choices-hold : map (λ t. choiceOf (t .case) (t .configuration) (t .q)) choices ≡ map (λ t. t .says) choices
+unfolding choices choiceOf run settled askInTurn planOf plans plan3 plan4 plan6 part7 plan7 twoFaces plan10 plan12 parts13 lastFrom tile13 part13 plan13 «TEST_3» «TEST_4» «TEST_6» «TEST_7» «TEST_10» «TEST_12» «TEST_13» «SUB_CONFIG_13» configurations hasCentre faceOf faceBy rule faceCorner faceCorners insideOf insideBy joined lookAt seenAs noteOf pickBy pickWith lastMatch diagonals edgeBy readBy crossBy moveOf moves movesOf case13Of case13By falseOnly bothWithin rootOf rootUnits wholeRoot rootWithin cornerOf valueAt corners allFinite ofBits neg add sub mul div lt eq le isNan ofInt
+choices-hold = refl
+
+-- ---- ranges
+-- each of the codes 1 to 38 is a tiling of one case, in order
+codes-hold : foldr _++_ [] tilingsOf
+    ≡ 1 ∷ 2 ∷ 3 ∷ 4 ∷ 5 ∷ 6 ∷ 7 ∷ 8 ∷ 9 ∷ 10 ∷ 11 ∷ 12 ∷ 13 ∷ 14 ∷ 15 ∷ 16 ∷ 17 ∷ 18 ∷ 19 ∷ 20 ∷ 21 ∷ 22 ∷ 23 ∷ 24 ∷ 25 ∷ 26 ∷ 27 ∷ 28 ∷ 29 ∷ 30 ∷ 31 ∷ 32 ∷ 33 ∷ 34 ∷ 35 ∷ 36 ∷ 37 ∷ 38 ∷ []
+unfolding tilingsOf
+codes-hold = refl
+
+-- each part of a choice's ranges, just past its bound
+record Past : Type 0 where
+  case : ℕ
+  chosen : Chosen
+
+abbrev past : ℕ → Chosen → Past
+past k s = record { case = k; chosen = s }
+
+abbrev tile : ℕ → ℕ → ℕ → Bool → ℕ → Chosen
+tile code row column centre unsettled = tiling code row column centre (record { unsettled = unsettled })
+
+pasts : List Past
+pasts =
+    past 4 (tile 4 0 0 false 0)
+    ∷ past 4 (tile 7 0 0 false 0)
+    ∷ past 4 (tile 6 8 0 false 0)
+    ∷ past 4 (tile 6 0 1 false 0)
+    ∷ past 7 (tile 12 0 3 false 0)
+    ∷ past 13 (tile 31 0 6 false 0)
+    ∷ past 13 (tile 33 0 12 true 0)
+    ∷ past 13 (tile 35 0 4 true 0)
+    ∷ past 4 (tile 6 0 0 true 0)
+    ∷ past 7 (tile 13 0 0 false 0)
+    ∷ past 4 (tile 6 0 0 false 4)
+    ∷ past 6 (tile 8 0 0 false 2)
+    ∷ past 7 (tile 15 0 0 false 4)
+    ∷ past 10 (tile 20 0 0 false 2)
+    ∷ past 12 (tile 26 0 0 false 3)
+    ∷ past 13 (tile 29 0 0 false 1)
+    ∷ past 0 (tile 38 0 0 false 0)
+    ∷ past 1 empty
+    ∷ past 12 (noTiling 0 5)
+    ∷ past 13 (noTiling 2 5)
+    ∷ past 13 (noTiling 0 64)
+    ∷ past 1 (refused 0)
+    ∷ past 1 (refused 4)
+    ∷ past 1 (refused 8)
+    ∷ past 1 (refused 10)
+    ∷ []
+
+pasts-hold : map (λ p. inRanges (p .case) (p .chosen)) pasts ≡ map (λ p. false) pasts
+unfolding pasts inRanges readings configurations tilingsOf columnsOf hasCentre
+pasts-hold = refl

@@ -1,0 +1,147 @@
+-- The family of a case and a configuration, by the two taken apart, and by it what is chosen. `toZ w8 (ofZ w8 z)` is how code reads z. Assumes nothing.
+use mathlib.Core.Path.{_≡_, refl, sym, ap, _∙_, subst}
+use mathlib.Core.Bool.{Bool, true, false, cond, _&&_}
+use mathlib.Core.List.{[], _∷_}
+use Prim.Native.Nat.{ℕ, _≤_, _<_}
+use native.Mathlib.Omega.{arith}
+use borrow.Author.Tests.{le-leb, lt-leb, lt-ltb, le-ltb}
+use lib.IntN.{ℤ, pos, negsuc}
+use lib.Dec.{T, leb, ltb, eqb, eqb→eq, ltb→lt}
+use lib.ListN.{getD}
+use lib.Ieee.Fits.{and-l}
+use mir.Syntax.{w8}
+use mir.Val.{SFits, toZ, ofZ}
+use mir.ValLaws.{toZ-ofZ}
+use Rattle.cube.specs.declared.Cube.{Cube}
+use Rattle.cube.specs.declared.Split.{Split}
+use Rattle.cube.specs.declared.Split.the-variants.{NotBelow, Below}
+use Rattle.cube.specs.Signs.{splitValue}
+use Rattle.cube.specs.Corners.{allFinite}
+use Rattle.cube.specs.declared.Refusal.{Refusal}
+use Rattle.cube.specs.Refusals.{refusalNumber}
+use Rattle.notes.specs.Notes.{noNotes}
+use Rattle.families.specs.Tilings.{configurations}
+use Rattle.families.specs.Plan as Plan
+use Rattle.families.specs.Plan.{Chosen, empty, run}
+use Rattle.families.specs.Plans.{plans, planOf}
+use Rattle.families.specs.Answers.{answersOf}
+use Rattle.choice.specs.Choice.{isCase, isConfiguration, numberOf, choiceOf}
+use Rattle.choice.specs.declared.Family.{Family}
+use Rattle.choice.specs.declared.Family.the-variants.{Nothing, Known, Refused}
+use Rattle.choice.specs.Kin.{Kin, nothing, known, refused, member, kinOf, kin}
+
+-- the code's table
+abbrev limit : ℕ → ℕ
+limit case = getD (0 ∷ 16 ∷ 24 ∷ 24 ∷ 8 ∷ 48 ∷ 48 ∷ 16 ∷ 6 ∷ 8 ∷ 6 ∷ 12 ∷ 24 ∷ 2 ∷ 12 ∷ []) case 0
+
+module _ (z : ℤ) (r : Split) (f : SFits w8 z) (e : splitValue r ≡ toZ w8 (ofZ w8 z)) where
+  is : (v : Split) → r ≡ v → z ≡ splitValue v
+  is v s = sym (toZ-ofZ w8 z f) ∙ sym e ∙ ap splitValue s
+
+  -- ---- z is the configuration
+  module _ (case c : ℕ) (h : case < 15) where
+    case-known : leb case 14 ≡ true
+    case-known = le-leb case 14 (omega arith)
+
+    pub one-of : r ≡ NotBelow c → c < limit case → known case c ≡ kinOf (pos case) z
+    unfolding kinOf configurations
+    one-of s l = rw (is (NotBelow c) s, case-known, lt-ltb c (limit case) l)
+
+    pub past : r ≡ NotBelow c → limit case ≤ c → refused 2 ≡ kinOf (pos case) z
+    unfolding kinOf configurations
+    past s l = rw (is (NotBelow c) s, case-known, le-ltb c (limit case) l)
+
+    pub of-0 : r ≡ Below c → eqb case 0 && eqb c 0 ≡ true → nothing ≡ kinOf (pos case) z
+    unfolding kinOf
+    of-0 s l = rw (is (Below c) s, case-known, l)
+
+    pub not-of-0 : r ≡ Below c → eqb case 0 && eqb c 0 ≡ false → refused 2 ≡ kinOf (pos case) z
+    unfolding kinOf
+    not-of-0 s l = rw (is (Below c) s, case-known, l)
+
+  -- ---- z is the case
+  module _ (y : ℤ) (k : ℕ) where
+    pub case-of : SFits w8 y → r ≡ NotBelow k → (x : Kin) → x ≡ kinOf (pos k) (toZ w8 (ofZ w8 y)) → x ≡ kinOf z y
+    case-of g s x i = rw (is (NotBelow k) s) (i ∙ ap (kinOf (pos k)) (toZ-ofZ w8 y g))
+
+    pub too-high : r ≡ NotBelow k → 15 ≤ k → refused 1 ≡ kinOf z y
+    unfolding kinOf
+    too-high s l = rw (is (NotBelow k) s, lt-leb k 14 l)
+
+    pub too-low : r ≡ Below k → refused 1 ≡ kinOf z y
+    unfolding kinOf
+    too-low s = rw (is (Below k) s)
+
+-- ---- a known configuration is one of its case's
+abbrev its : Kin → Bool
+its nothing = true
+its (known k c) = ltb c (getD configurations k 0)
+its (refused n) = true
+
+its-or-refused : (a b : Bool) (m : Kin) → (T b → T (its m)) → T (its (cond a (cond b m (refused 2)) (refused 1)))
+its-or-refused true true m f = f tt
+its-or-refused true false m f = tt
+its-or-refused false b m f = tt
+
+its-own : (x y : ℤ) → T (its (kinOf x y))
+unfolding kinOf
+its-own x (pos c) = its-or-refused (isCase x) (ltb c (getD configurations (numberOf x) 0)) (known (numberOf x) c) (λ h. h)
+its-own x (negsuc c) = its-or-refused (isCase x) (eqb (numberOf x) 0 && eqb c 0) nothing (λ h. tt)
+
+-- ---- what is chosen for a family
+abbrev ifFinite : Bool → Chosen → Chosen
+ifFinite b r = cond b r (Plan.refused 3)
+
+abbrev choiceBy : Cube → Kin → Chosen
+choiceBy q nothing = ifFinite (allFinite q) empty
+choiceBy q (known k c) = ifFinite (allFinite q) (run (answersOf q) (planOf k c) noNotes)
+choiceBy q (refused n) = Plan.refused n
+
+chosen-or-refused : (q : Cube) (a b : Bool) (m : Kin) (r : Chosen) → (T b → r ≡ choiceBy q m)
+    → cond a (cond b r (Plan.refused 2)) (Plan.refused 1) ≡ choiceBy q (cond a (cond b m (refused 2)) (refused 1))
+chosen-or-refused q true true m r f = f tt
+chosen-or-refused q true false m r f = refl
+chosen-or-refused q false b m r f = refl
+
+no-plan : (k : ℕ) → T (eqb k 0) → planOf k 0 ≡ Plan.nothing
+unfolding planOf plans
+no-plan k h = rw (eqb→eq k 0 h)
+
+choice-by : (x y : ℤ) (q : Cube) → choiceOf x y q ≡ choiceBy q (kinOf x y)
+unfolding choiceOf kinOf run
+choice-by x (pos c) q = chosen-or-refused q (isCase x) (ltb c (getD configurations (numberOf x) 0)) (known (numberOf x) c) _ (λ h. refl)
+choice-by x (negsuc c) q =
+    chosen-or-refused q (isCase x) (eqb (numberOf x) 0 && eqb c 0) nothing _
+    (λ h. rw (no-plan (numberOf x) (and-l (eqb (numberOf x) 0) (eqb c 0) h)))
+
+module _ (x y : ℤ) (f : Family) (fx : SFits w8 x) (fy : SFits w8 y) (e : kin f ≡ kinOf (toZ w8 (ofZ w8 x)) (toZ w8 (ofZ w8 y))) where
+  of : (v : Family) → f ≡ v → kinOf x y ≡ kin v
+  of v s = rw (← toZ-ofZ w8 x fx, ← toZ-ofZ w8 y fy) (sym e ∙ ap kin s)
+
+  pub one-of-its : (k c : ℕ) → f ≡ Known k c → c < getD configurations k 0
+  one-of-its k c s = ltb→lt c (getD configurations k 0) (subst (λ (m : Kin). T (its m)) (of (Known k c) s) (its-own x y))
+
+  module _ (q : Cube) where
+    by-family : (v : Family) → f ≡ v → choiceBy q (kin v) ≡ choiceOf x y q
+    by-family v s = sym (choice-by x y q ∙ ap (choiceBy q) (of v s))
+
+    pub by-refusal : (why : Refusal) → f ≡ Refused why → Plan.refused (refusalNumber why) ≡ choiceOf x y q
+    by-refusal why s = by-family (Refused why) s
+
+    -- b is what the code has found of the corners
+    module _ (b : Bool) (finite : b ≡ allFinite q) where
+      found : (a : Bool) (r : Chosen) → b ≡ a → ifFinite a r ≡ ifFinite (allFinite q) r
+      found a r h = ap (λ (d : Bool). ifFinite d r) (sym h ∙ finite)
+
+      pub by-nothing : f ≡ Nothing → b ≡ true → empty ≡ choiceOf x y q
+      by-nothing s h = found true empty h ∙ by-family Nothing s
+
+      pub by-nothing-refused : f ≡ Nothing → b ≡ false → Plan.refused 3 ≡ choiceOf x y q
+      by-nothing-refused s h = found false empty h ∙ by-family Nothing s
+
+      module _ (k c : ℕ) (s : f ≡ Known k c) where
+        pub by-plan : b ≡ true → (r : Chosen) → r ≡ run (answersOf q) (planOf k c) noNotes → r ≡ choiceOf x y q
+        by-plan h r i = i ∙ found true (run (answersOf q) (planOf k c) noNotes) h ∙ by-family (Known k c) s
+
+        pub by-plan-refused : b ≡ false → Plan.refused 3 ≡ choiceOf x y q
+        by-plan-refused h = found false (run (answersOf q) (planOf k c) noNotes) h ∙ by-family (Known k c) s

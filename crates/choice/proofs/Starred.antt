@@ -1,0 +1,18 @@
+-- The starred cubes of document 01, by computation. Assumes nothing.
+use mathlib.Core.Path.{refl}
+use lib.Ieee.{ofBits, neg, add, sub, mul, div, lt, eq, le, isNan, ofInt}
+use Rattle.cube.specs.Corners.{corners, valueAt, cornerOf, allFinite}
+use Rattle.face.specs.Face.{faceCorners, faceCorner, rule, faceBy, faceOf}
+use Rattle.edge.specs.Edge.{moves, moveOf, crossBy, readBy, edgeBy}
+use Rattle.interior.specs.Pick.{diagonals, lastMatch, pickWith, pickBy}
+use Rattle.interior.specs.Interior.{joined, noteOf, seenAs, lookAt, insideBy, insideOf}
+use Rattle.families.specs.Tables.{«TEST_3», «TEST_4», «TEST_7», «TEST_10», «TEST_13», «SUB_CONFIG_13»}
+use Rattle.families.specs.Tilings.{configurations, hasCentre}
+use Rattle.families.specs.Plan.{askInTurn, settled, run}
+use Rattle.families.specs.Plans.{plan3, plan4, part7, plan7, twoFaces, plan10, parts13, lastFrom, tile13, part13, plan13, plans, planOf}
+use Rattle.choice.specs.Choice.{choiceOf}
+use Rattle.choice.specs.Starred.{stars, StarredCubes}
+
+pub starred : StarredCubes
+unfolding stars choiceOf run settled askInTurn planOf plans plan3 plan4 part7 plan7 twoFaces plan10 parts13 lastFrom tile13 part13 plan13 «TEST_3» «TEST_4» «TEST_7» «TEST_10» «TEST_13» «SUB_CONFIG_13» configurations hasCentre faceOf faceBy rule faceCorner faceCorners insideOf insideBy joined lookAt seenAs noteOf pickBy pickWith lastMatch diagonals edgeBy readBy crossBy moveOf moves cornerOf valueAt corners allFinite ofBits neg add sub mul div lt eq le isNan ofInt
+starred = refl

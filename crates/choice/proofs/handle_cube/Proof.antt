@@ -1,0 +1,71 @@
+-- `choice::handle_cube` chooses what `choiceOf` does, in the ranges; and the starred cubes.
+use mathlib.Core.Path.{_≡_, subst, sym}
+use borrow.Author.Needs.{needs}
+use lib.Dec.{T}
+use lib.IntN.{ℤ}
+use Rattle.cube.specs.declared.Cube.{Cube}
+use Rattle.families.specs.Plan.{Chosen}
+use Rattle.choice.specs.Choice.{numberOf, choiceOf}
+use Rattle.choice.specs.Ranges.{inRanges}
+use Rattle.choice.specs.Starred.{StarredCubes}
+use Rattle.choice.proofs.Families.{one-of-its, by-nothing, by-nothing-refused, by-plan, by-plan-refused, by-refusal}
+use Rattle.choice.proofs.Ranges.{ranges}
+use Rattle.choice.proofs.Starred.{starred}
+use Rattle.choice.proofs.handle_cube.Statement.{statement}
+use Rattle.choice.proofs.handle_cube.Tie as tie
+
+promised : (x y : ℤ) (q : Cube) (r : Chosen) → r ≡ choiceOf x y q → (r ≡ choiceOf x y q) × (T (inRanges (numberOf x) r) × StarredCubes)
+promised x y q r e = (e, (subst (λ (s : Chosen). T (inRanges (numberOf x) s)) (sym e) (ranges x y q), starred))
+
+family-of-requires : tie.Need-family-of-requires
+family-of-requires c κs = search needs
+
+enum-told : tie.Need-enum-told
+enum-told c = search needs
+
+all-finite-requires : tie.Need-all-finite-requires
+all-finite-requires c κs = search needs
+
+returns : tie.Need-returns
+returns c = promised _ _ _ _ (search by-nothing)
+
+enum-known-k : tie.Need-enum-known-k
+enum-known-k c = search needs
+
+all-finite-requires-2 : tie.Need-all-finite-requires-2
+all-finite-requires-2 c κs = search needs
+
+choose-requires : tie.Need-choose-requires
+choose-requires c κs = search one-of-its
+
+returns-2 : tie.Need-returns-2
+returns-2 c = promised _ _ _ _ (search by-plan)
+
+enum-known-why : tie.Need-enum-known-why
+enum-known-why c = search needs
+
+returns-3 : tie.Need-returns-3
+returns-3 c = promised _ _ _ _ (search by-nothing-refused)
+
+returns-4 : tie.Need-returns-4
+returns-4 c = promised _ _ _ _ (search by-plan-refused)
+
+returns-5 : tie.Need-returns-5
+returns-5 c = promised _ _ _ _ (search by-refusal)
+
+pub handle-cube-spec : {M : Type 1} → statement M
+handle-cube-spec =
+    tie.close
+    (tie.spec
+    family-of-requires
+    enum-told
+    all-finite-requires
+    returns
+    enum-known-k
+    all-finite-requires-2
+    choose-requires
+    returns-2
+    enum-known-why
+    returns-3
+    returns-4
+    returns-5)
