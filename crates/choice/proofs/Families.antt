@@ -25,10 +25,10 @@ use Rattle.families.specs.Plan as Plan
 use Rattle.families.specs.Plan.{Chosen, empty, run}
 use Rattle.families.specs.Plans.{plans, planOf}
 use Rattle.families.specs.Answers.{answersOf}
-use Rattle.choice.specs.Choice.{isCase, isConfiguration, numberOf, choiceOf}
+use Rattle.choice.specs.Choice.{isCase, numberOf, choiceOf}
 use Rattle.choice.specs.declared.Family.{Family}
 use Rattle.choice.specs.declared.Family.the-variants.{Nothing, Known, Refused}
-use Rattle.choice.specs.Kin.{Kin, nothing, known, refused, member, kinOf, kin}
+use Rattle.choice.specs.Kin.{Kin, nothing, known, refused, kinOf, kin}
 
 -- the code's table
 abbrev limit : ℕ → ℕ

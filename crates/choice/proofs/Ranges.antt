@@ -2,7 +2,7 @@
 -- a plan leads to is what is chosen, whatever the answers. Assumes nothing.
 use mathlib.Core.Path.{_≡_, subst, sym}
 use mathlib.Core.Bool.{Bool, true, false, Bool·beq, cond, _&&_}
-use mathlib.Core.List.{List, [], _∷_}
+use mathlib.Core.List.{List, []}
 use Prim.Native.Nat.{ℕ, _+_, _≤_, _<_}
 use native.Mathlib.Omega.{arith}
 use lib.Dec.{T, leb, ltb, eqb, eqb→eq, leb→le, ltb→lt, le→leb}
@@ -15,7 +15,7 @@ use Rattle.cube.proofs.Table.{allUnder, under}
 use Rattle.notes.specs.declared.Notes.{Notes}
 use Rattle.notes.specs.Notes.{noNotes, added}
 use Rattle.interior.specs.Interior as Interior
-use Rattle.interior.specs.Interior.{Look, seen, counted, insideOf}
+use Rattle.interior.specs.Interior.{Look, seen, counted}
 use Rattle.interior.proofs.Bounds.{inside-bound}
 use Rattle.families.specs.Tables.{«TEST_3», «TEST_4», «TEST_6», «TEST_7», «TEST_10», «TEST_12», «TEST_13», «SUB_CONFIG_13»}
 use Rattle.families.specs.Tilings.{configurations, tilingsOf, columnsOf, isOneOf, hasCentre}

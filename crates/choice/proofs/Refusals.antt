@@ -1,6 +1,6 @@
 -- An interior test refuses with 9 alone. Assumes nothing.
 use mathlib.Core.Bool.{Bool, true, false, cond, _&&_}
-use mathlib.Core.List.{List, [], _∷_, map, foldr}
+use mathlib.Core.List.{List, [], _∷_}
 use Prim.Native.Nat.{ℕ}
 use lib.Dec.{T, leb, eqb}
 use lib.IntN.{ℤ, pos}
