@@ -1,15 +1,18 @@
 -- The case that a match has found: its configurations and its plan. Assumes nothing.
-use mathlib.Core.Path.{_≡_, sym, ap, subst, _∙_}
-use mathlib.Core.Bool.{Bool, true, false, not}
+use mathlib.Core.Path.{_≡_, refl, sym, ap, subst, _∙_}
+use mathlib.Core.Bool.{Bool, true, false, not, cond}
+use mathlib.Core.List.{List, [], _∷_}
 use Prim.Native.Nat.{ℕ, zero, suc, _<_, _≤_}
 use native.Mathlib.Omega.{arith}
+use borrow.Author.Tests.{ne-eqb}
 use lib.Dec.{T, leb, leb→le, nleb→lt}
 use lib.ListN.{getD, List·getD-eq-default}
 use Rattle.cube.specs.declared.Cube.{Cube}
+use Rattle.cube.proofs.Table.{agree}
 use Rattle.notes.specs.Notes.{noNotes}
-use Rattle.families.specs.Tilings.{configurations}
-use Rattle.families.specs.Plan.{Chosen, run}
-use Rattle.families.specs.Plans.{planOf}
+use Rattle.families.specs.Tilings.{configurations, tilingsOf, firstTiling, isOneOf, hasCentre}
+use Rattle.families.specs.Plan.{Chosen, tiling, run}
+use Rattle.families.specs.Plans.{plans, planOf}
 use Rattle.families.specs.Answers.{answersOf}
 
 module _ {case c : ℕ} where
@@ -41,14 +44,42 @@ module _ {case c : ℕ} where
 pub reached : {case : ℕ} (q : Cube) (c : ℕ) {k : ℕ} → case ≡ k → {x : Chosen} → x ≡ run (answersOf q) (planOf k c) noNotes → x ≡ run (answersOf q) (planOf case c) noNotes
 reached q c e f = f ∙ ap (λ (j : ℕ). run (answersOf q) (planOf j c) noNotes) (sym e)
 
--- k is none of the numbers from 1 to n, as a match tells it
-abbrev NoneTo : ℕ → ℕ → Type 0
-NoneTo zero k = Unit {0}
-NoneTo (suc n) k = NoneTo n k × (k ≡ suc n → ⊥)
+-- k is none of the numbers below n, as a match tells it
+abbrev NoneUnder : ℕ → ℕ → Type 0
+NoneUnder zero k = Unit {0}
+NoneUnder (suc n) k = NoneUnder n k × (k ≡ suc n → ⊥)
 
-past : (n k : ℕ) → 0 < k → NoneTo n k → n < k
+past : (n k : ℕ) → 0 < k → NoneUnder n k → n < k
 past zero k i h = i
 past (suc n) k i h = let l = past n k i (h .0) in let d = h .1 in omega arith
 
-pub last-case : (case c : ℕ) → c < getD configurations case 0 → NoneTo 13 case → case ≡ 14
-last-case case c h r = let l = past 13 case (positive h) r in let m = above h in omega arith
+-- past case 14 there is no tiling, nor for case 0
+pub no-first : (k : ℕ) → NoneUnder 14 k → 0 ≡ firstTiling k
+unfolding firstTiling tilingsOf
+no-first zero h = refl
+no-first (suc k) h = sym (ap (λ (codes : List ℕ). getD codes 0 0) (List·getD-eq-default tilingsOf [] (past 14 (suc k) (omega arith) h)))
+
+-- the cases that ask something, and case 0
+abbrev asking : List ℕ
+asking = 0 ∷ 3 ∷ 4 ∷ 6 ∷ 7 ∷ 10 ∷ 12 ∷ 13 ∷ []
+
+unasked : (q : Cube) (c k : ℕ) → k < 15
+    → cond (isOneOf k asking) (run (answersOf q) (planOf k c) noNotes) (tiling (firstTiling k) c 0 (hasCentre (firstTiling k)) noNotes) ≡ run (answersOf q) (planOf k c) noNotes
+unfolding run planOf plans firstTiling tilingsOf
+unasked q c k h =
+    agree (λ j. cond (isOneOf j asking) (run (answersOf q) (planOf j c) noNotes) (tiling (firstTiling j) c 0 (hasCentre (firstTiling j)) noNotes))
+    (λ j. run (answersOf q) (planOf j c) noNotes) 15 refl k h
+
+pub plainly : (q : Cube) (case c : ℕ) → c < getD configurations case 0
+    → (case ≡ 3 → ⊥) → (case ≡ 4 → ⊥) → (case ≡ 6 → ⊥) → (case ≡ 7 → ⊥) → (case ≡ 10 → ⊥) → (case ≡ 12 → ⊥) → (case ≡ 13 → ⊥)
+    → (code : ℕ) → code ≡ firstTiling case → tiling code c 0 (hasCentre code) noNotes ≡ run (answersOf q) (planOf case c) noNotes
+plainly q case c h n3 n4 n6 n7 n10 n12 n13 code e =
+    rw e
+    (sym (ap (λ (b : Bool). cond b (run (answersOf q) (planOf case c) noNotes) (tiling (firstTiling case) c 0 (hasCentre (firstTiling case)) noNotes)) none)
+    ∙ unasked q c case (above h))
+  where
+    nought : (case ≡ 0 → ⊥)
+    nought e = let l = positive h in omega (arith, l, e)
+
+    none : isOneOf case asking ≡ false
+    none = rw (ne-eqb case 0 nought, ne-eqb case 3 n3, ne-eqb case 4 n4, ne-eqb case 6 n6, ne-eqb case 7 n7, ne-eqb case 10 n10, ne-eqb case 12 n12, ne-eqb case 13 n13)

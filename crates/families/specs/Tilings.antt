@@ -144,6 +144,10 @@ tilingsOf =
     ∷ («TILING_14» ∷ [])
     ∷ []
 
+-- the first tiling of a case, its only one where the case asks nothing; there is no code 0
+unfoldable pub firstTiling : ℕ → ℕ
+firstTiling case = getD (getD tilingsOf case []) 0 0
+
 abbrev pub isOneOf : ℕ → List ℕ → Bool
 isOneOf code codes = foldr _||_ false (map (eqb code) codes)
 

@@ -4,7 +4,7 @@ ghost use mathlib.Core.Path.{_≡_};
 ghost use Prim.Native.Nat.{_<_};
 ghost use lib.ListN.{getD};
 ghost use Rattle.notes.specs.Notes.{noNotes};
-ghost use Rattle.families.specs.Tilings.{configurations};
+ghost use Rattle.families.specs.Tilings.{configurations, firstTiling};
 ghost use Rattle.families.specs.Plan.{run};
 ghost use Rattle.families.specs.Plans.{planOf};
 ghost use Rattle.families.specs.Answers.{answersOf, chosen};
@@ -35,25 +35,42 @@ pub enum Choice {
     Refused(Refusal),
 }
 
+// The first tiling of a case, its only one where the case asks nothing.
+fn first_tiling(case: u8) -> u8
+    ensures { λ r. ⌜ r ≡ firstTiling case ⌝ }
+{
+    match case {
+        1 => TILING_1,
+        2 => TILING_2,
+        3 => TILING_3_1,
+        4 => TILING_4_1,
+        5 => TILING_5,
+        6 => TILING_6_1_1,
+        7 => TILING_7_1,
+        8 => TILING_8,
+        9 => TILING_9,
+        10 => TILING_10_1_1,
+        11 => TILING_11,
+        12 => TILING_12_1_1,
+        13 => TILING_13_1,
+        14 => TILING_14,
+        _ => 0,
+    }
+}
+
 // The choice for a configuration of a case.
 pub fn choose(q: Cube, case: u8, c: u8) -> Choice
     requires { ⌜ c < getD configurations case 0 ⌝ }
     ensures { λ r. ⌜ chosen r ≡ run (answersOf q) (planOf case c) noNotes ⌝ }
 {
     match case {
-        1 => plain(TILING_1, c),
-        2 => plain(TILING_2, c),
         3 => case_3(q, c),
         4 => case_4(q, c),
-        5 => plain(TILING_5, c),
         6 => case_6(q, c),
         7 => case_7(q, c),
-        8 => plain(TILING_8, c),
-        9 => plain(TILING_9, c),
         10 => case_10(q, c),
-        11 => plain(TILING_11, c),
         12 => case_12(q, c),
         13 => case_13(q, c),
-        _ => plain(TILING_14, c),
+        _ => plain(first_tiling(case), c),
     }
 }
