@@ -16,6 +16,7 @@ use Rattle.cube.specs.declared.Cube.{Cube}
 use Rattle.cube.specs.declared.Split.{Split}
 use Rattle.cube.specs.declared.Split.the-variants.{NotBelow, Below}
 use Rattle.cube.specs.Signs.{splitValue}
+use Rattle.cube.proofs.Signs.{taken}
 use Rattle.cube.specs.Corners.{allFinite}
 use Rattle.cube.specs.declared.Refusal.{Refusal}
 use Rattle.cube.specs.Refusals.{refusalNumber}
@@ -35,9 +36,6 @@ abbrev limit : ℕ → ℕ
 limit case = getD (0 ∷ 16 ∷ 24 ∷ 24 ∷ 8 ∷ 48 ∷ 48 ∷ 16 ∷ 6 ∷ 8 ∷ 6 ∷ 12 ∷ 24 ∷ 2 ∷ 12 ∷ []) case 0
 
 module _ (z : ℤ) (r : Split) (f : SFits w8 z) (e : splitValue r ≡ toZ w8 (ofZ w8 z)) where
-  is : (v : Split) → r ≡ v → z ≡ splitValue v
-  is v s = sym (toZ-ofZ w8 z f) ∙ sym e ∙ ap splitValue s
-
   -- ---- z is the configuration
   module _ (case c : ℕ) (h : case < 15) where
     case-known : leb case 14 ≡ true
@@ -45,32 +43,32 @@ module _ (z : ℤ) (r : Split) (f : SFits w8 z) (e : splitValue r ≡ toZ w8 (of
 
     pub one-of : r ≡ NotBelow c → c < limit case → known case c ≡ kinOf (pos case) z
     unfolding kinOf configurations
-    one-of s l = rw (is (NotBelow c) s, case-known, lt-ltb c (limit case) l)
+    one-of s l = rw (taken z r f e (NotBelow c) s, case-known, lt-ltb c (limit case) l)
 
     pub past : r ≡ NotBelow c → limit case ≤ c → refused 2 ≡ kinOf (pos case) z
     unfolding kinOf configurations
-    past s l = rw (is (NotBelow c) s, case-known, le-ltb c (limit case) l)
+    past s l = rw (taken z r f e (NotBelow c) s, case-known, le-ltb c (limit case) l)
 
     pub of-0 : r ≡ Below c → eqb case 0 && eqb c 0 ≡ true → nothing ≡ kinOf (pos case) z
     unfolding kinOf
-    of-0 s l = rw (is (Below c) s, case-known, l)
+    of-0 s l = rw (taken z r f e (Below c) s, case-known, l)
 
     pub not-of-0 : r ≡ Below c → eqb case 0 && eqb c 0 ≡ false → refused 2 ≡ kinOf (pos case) z
     unfolding kinOf
-    not-of-0 s l = rw (is (Below c) s, case-known, l)
+    not-of-0 s l = rw (taken z r f e (Below c) s, case-known, l)
 
   -- ---- z is the case
   module _ (y : ℤ) (k : ℕ) where
     pub case-of : SFits w8 y → r ≡ NotBelow k → (x : Kin) → x ≡ kinOf (pos k) (toZ w8 (ofZ w8 y)) → x ≡ kinOf z y
-    case-of g s x i = rw (is (NotBelow k) s) (i ∙ ap (kinOf (pos k)) (toZ-ofZ w8 y g))
+    case-of g s x i = rw (taken z r f e (NotBelow k) s) (i ∙ ap (kinOf (pos k)) (toZ-ofZ w8 y g))
 
     pub too-high : r ≡ NotBelow k → 15 ≤ k → refused 1 ≡ kinOf z y
     unfolding kinOf
-    too-high s l = rw (is (NotBelow k) s, lt-leb k 14 l)
+    too-high s l = rw (taken z r f e (NotBelow k) s, lt-leb k 14 l)
 
     pub too-low : r ≡ Below k → refused 1 ≡ kinOf z y
     unfolding kinOf
-    too-low s = rw (is (Below k) s)
+    too-low s = rw (taken z r f e (Below k) s)
 
 -- ---- a known configuration is one of its case's
 abbrev its : Kin → Bool

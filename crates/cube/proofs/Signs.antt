@@ -10,6 +10,8 @@ use lib.Signed.{ltZ, nonNeg}
 use mir.Syntax.{w8}
 use mir.Val.{Fits, SFits, toZ, ofZ}
 use mir.ValLaws.{toZ-ofZ, toZ-pos}
+use Rattle.cube.specs.declared.Split.{Split}
+use Rattle.cube.specs.Signs.{splitValue}
 
 no-less : (a : ℕ) → ltb a 0 ≡ false
 no-less a = le-ltb a 0 (omega arith)
@@ -54,3 +56,7 @@ not-below (pos n) f h =
       wide = subst (λ x. Fits w8 (natAbs x)) (sym r) (record { fits = omega arith });
       back = ap (λ x. pos (natAbs x)) r;
     }
+
+-- what a match on the number taken apart tells of the number
+pub taken : (z : ℤ) (r : Split) → SFits w8 z → splitValue r ≡ toZ w8 (ofZ w8 z) → (v : Split) → r ≡ v → z ≡ splitValue v
+taken z r f e v s = sym (toZ-ofZ w8 z f) ∙ sym e ∙ ap splitValue s

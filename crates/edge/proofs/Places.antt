@@ -10,31 +10,28 @@ use lib.Dec.{ltb, eqb}
 use lib.Ieee.{Float}
 use mir.Syntax.{w8}
 use mir.Val.{SFits, toZ, ofZ}
-use mir.ValLaws.{toZ-ofZ}
 use Rattle.binary32.specs.Numbers.{f32}
 use Rattle.cube.specs.declared.Split.{Split}
 use Rattle.cube.specs.declared.Split.the-variants.{NotBelow, Below}
 use Rattle.cube.specs.Signs.{splitValue}
+use Rattle.cube.proofs.Signs.{taken}
 use Rattle.cube.specs.declared.Cube.{Cube}
 use Rattle.cube.specs.Corners.{corners, valueAt, cornerOf, allFinite}
 use Rattle.edge.specs.Edge.{Told, quotients, edgeBy, edgeOf, isEdge, reading, refused, edgeReadingOf}
 use Rattle.edge.specs.Columns.{placeOf}
 
 module _ (z : ℤ) (r : Split) (k : ℕ) (f : SFits w8 z) (e : splitValue r ≡ toZ w8 (ofZ w8 z)) where
-  is : (v : Split) → r ≡ v → z ≡ splitValue v
-  is v s = sym (toZ-ofZ w8 z f) ∙ sym e ∙ ap splitValue s
-
   pub an-edge : r ≡ NotBelow k → k < 12 → k ≡ placeOf z
   unfolding placeOf
-  an-edge s h = rw (is (NotBelow k) s, lt-ltb k 12 h)
+  an-edge s h = rw (taken z r f e (NotBelow k) s, lt-ltb k 12 h)
 
   pub past-edges : r ≡ NotBelow k → 12 ≤ k → 12 ≡ placeOf z
   unfolding placeOf
-  past-edges s h = rw (is (NotBelow k) s, le-ltb k 12 h)
+  past-edges s h = rw (taken z r f e (NotBelow k) s, le-ltb k 12 h)
 
   pub below-edges : r ≡ Below k → 12 ≡ placeOf z
   unfolding placeOf
-  below-edges s = rw (is (Below k) s)
+  below-edges s = rw (taken z r f e (Below k) s)
 
 -- ---- a number is an edge's exactly where its place is not 12
 edge-by : (k : ℕ) (b : Bool) → (b ≡ true → k < 12) → b ≡ not (eqb (cond b k 12) 12)

@@ -9,24 +9,21 @@ use lib.Ieee.Fits.{and-r}
 use lib.Dec.{T, leb, eqb, leb·suc-suc, leb·zero, eqb·suc-zero}
 use mir.Syntax.{w8}
 use mir.Val.{SFits, toZ, ofZ}
-use mir.ValLaws.{toZ-ofZ}
 use Rattle.cube.specs.declared.Split.{Split}
 use Rattle.cube.specs.declared.Split.the-variants.{NotBelow, Below}
 use Rattle.cube.specs.Signs.{splitValue}
+use Rattle.cube.proofs.Signs.{taken}
 use Rattle.cube.specs.declared.Cube.{Cube}
 use Rattle.cube.specs.Corners.{allFinite}
 use Rattle.face.specs.Face.{faceOf, isFace, answer, refused, testFaceOf}
 use Rattle.face.specs.Columns.{placeOf}
 
 module _ (z : ℤ) (r : Split) (k : ℕ) (f : SFits w8 z) (e : splitValue r ≡ toZ w8 (ofZ w8 z)) where
-  is : (v : Split) → r ≡ v → z ≡ splitValue v
-  is v s = sym (toZ-ofZ w8 z f) ∙ sym e ∙ ap splitValue s
-
   pub not-below : r ≡ NotBelow k → k ≡ natAbs z
-  not-below s = rw (is (NotBelow k) s)
+  not-below s = rw (taken z r f e (NotBelow k) s)
 
   pub below : r ≡ Below k → k + 1 ≡ natAbs z
-  below s = rw (is (Below k) s, add-one)
+  below s = rw (taken z r f e (Below k) s, add-one)
 
 module _ (z : ℤ) (k : ℕ) (e : k ≡ natAbs z) where
   pub a-face : k ≤ 6 → k ≡ placeOf z
