@@ -9,7 +9,7 @@ use lib.IntN.{ℤ, pos, negsuc}
 use lib.Ieee.{ofBits, neg, add, sub, mul, div, lt, eq, le, isNan, ofInt}
 use Rattle.root.specs.Root.{rootWithin, wholeRoot, rootUnits, rootOf}
 use Rattle.cube.specs.declared.Cube.{Cube}
-use Rattle.cube.specs.Corners.{corners, valueAt, cornerOf, allFinite}
+use Rattle.cube.specs.Corners.{corners, valueAt, cornerOf, allFinite, cube}
 use Rattle.face.specs.Face.{faceCorners, faceCorner, rule, faceBy, faceOf}
 use Rattle.edge.specs.Edge.{moves, moveOf, crossBy, readBy, edgeBy}
 use Rattle.edge.specs.Columns.{movesOf}
@@ -22,7 +22,6 @@ use Rattle.families.specs.Plan.{askInTurn, Chosen, empty, noTiling, tiling, ref
 use Rattle.families.specs.Plans.{plan3, plan4, plan6, part7, plan7, twoFaces, plan10, plan12, parts13, lastFrom, tile13, part13, plan13, plans, planOf}
 use Rattle.choice.specs.Choice.{choiceOf}
 use Rattle.choice.specs.Ranges.{readings, inRanges}
-use Rattle.choice.specs.Starred.{cube}
 
 record Test : Type 0 where
   case : ℤ

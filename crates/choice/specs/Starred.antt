@@ -4,23 +4,11 @@ use mathlib.Core.Path.{_≡_}
 use mathlib.Core.Bool.{true, false}
 use mathlib.Core.List.{List, [], _∷_, map}
 use lib.IntN.{ℤ, pos}
-use lib.Ieee.{binary32, ofBits}
 use Rattle.cube.specs.declared.Cube.{Cube}
+use Rattle.cube.specs.Corners.{cube}
 use Rattle.families.specs.Tilings.{«TILING_3_1», «TILING_3_2», «TILING_4_1», «TILING_4_2», «TILING_7_4_2», «TILING_10_1_2», «TILING_13_1», «TILING_13_1_»}
 use Rattle.families.specs.Plan.{Chosen, tiling}
 use Rattle.choice.specs.Choice.{choiceOf}
-
-abbrev pub cube : ℕ → ℕ → ℕ → ℕ → ℕ → ℕ → ℕ → ℕ → Cube
-cube a b c d e f g h = record {
-  c0 = ofBits binary32 a;
-  c1 = ofBits binary32 b;
-  c2 = ofBits binary32 c;
-  c3 = ofBits binary32 d;
-  c4 = ofBits binary32 e;
-  c5 = ofBits binary32 f;
-  c6 = ofBits binary32 g;
-  c7 = ofBits binary32 h;
-}
 
 abbrev one : ℕ
 one = 0x3f800000

@@ -4,7 +4,7 @@ use mathlib.Core.Bool.{Bool, true, _&&_, cond}
 use mathlib.Core.List.{List, [], _∷_, map, foldr}
 use lib.ListN.{getD}
 use lib.Dec.{ltb}
-use lib.Ieee.{Float, nan}
+use lib.Ieee.{Float, nan, binary32, ofBits}
 use lib.Ieee.Scale.{finite}
 use Rattle.cube.specs.declared.Cube.{Cube}
 
@@ -25,3 +25,16 @@ cornerOf q k = valueAt (corners q) k
 -- what refusal 3 asks: no corner is NaN or infinite
 unfoldable pub allFinite : Cube → Bool
 allFinite q = foldr _&&_ true (map finite (corners q))
+
+-- the cube whose corners have these bits
+abbrev pub cube : ℕ → ℕ → ℕ → ℕ → ℕ → ℕ → ℕ → ℕ → Cube
+cube a b c d e f g h = record {
+  c0 = ofBits binary32 a;
+  c1 = ofBits binary32 b;
+  c2 = ofBits binary32 c;
+  c3 = ofBits binary32 d;
+  c4 = ofBits binary32 e;
+  c5 = ofBits binary32 f;
+  c6 = ofBits binary32 g;
+  c7 = ofBits binary32 h;
+}

@@ -8,20 +8,8 @@ use lib.IntN.{ℤ, pos, negsuc}
 use lib.Ieee.{binary32, ofBits, neg, add, sub, mul, div, lt, isNan}
 use Rattle.binary32.specs.Numbers.{f32}
 use Rattle.cube.specs.declared.Cube.{Cube}
-use Rattle.cube.specs.Corners.{corners, valueAt, cornerOf, allFinite}
+use Rattle.cube.specs.Corners.{corners, valueAt, cornerOf, allFinite, cube}
 use Rattle.edge.specs.Edge.{moves, moveOf, rising, beyond, crossed, blank, quotients, crossBy, readBy, valued, edgeBy, edgeOf, Said, reading, refused, edgeReadingOf}
-
-abbrev cube : ℕ → ℕ → ℕ → ℕ → ℕ → ℕ → ℕ → ℕ → Cube
-cube a b c d e f g h = record {
-  c0 = ofBits binary32 a;
-  c1 = ofBits binary32 b;
-  c2 = ofBits binary32 c;
-  c3 = ofBits binary32 d;
-  c4 = ofBits binary32 e;
-  c5 = ofBits binary32 f;
-  c6 = ofBits binary32 g;
-  c7 = ofBits binary32 h;
-}
 
 -- -16, -7, -6, 5, 8, 4, 7, -1
 abbrev p : Cube

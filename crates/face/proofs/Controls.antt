@@ -6,25 +6,13 @@ use mathlib.Core.Bool.{Bool, true, false}
 use mathlib.Core.List.{List, [], _∷_, map}
 use Prim.Native.Nat.{ℕ}
 use lib.IntN.{ℤ, pos, negsuc}
-use lib.Ieee.{binary32, ofBits, neg, sub, mul, lt, eq, le, ofInt}
+use lib.Ieee.{ofBits, neg, sub, mul, lt, eq, le, ofInt}
 use Rattle.cube.specs.declared.Cube.{Cube}
-use Rattle.cube.specs.Corners.{corners, valueAt, cornerOf, allFinite}
+use Rattle.cube.specs.Corners.{corners, valueAt, cornerOf, allFinite, cube}
 use Rattle.face.specs.Face.{faceCorners, faceCorner, rule, faceBy, faceOf, Said, answer, refused, testFaceOf}
 use Rattle.face.specs.Laws.{inRange, upAndDown, alternate}
 use Rattle.face.specs.Meeting as Meeting
 use Rattle.face.specs.Meeting.{sameValues, meetAt, meet, alternateAt, joined, comparedOf, equal, apart}
-
-abbrev cube : ℕ → ℕ → ℕ → ℕ → ℕ → ℕ → ℕ → ℕ → Cube
-cube a b c d e f g h = record {
-  c0 = ofBits binary32 a;
-  c1 = ofBits binary32 b;
-  c2 = ofBits binary32 c;
-  c3 = ofBits binary32 d;
-  c4 = ofBits binary32 e;
-  c5 = ofBits binary32 f;
-  c6 = ofBits binary32 g;
-  c7 = ofBits binary32 h;
-}
 
 -- ---- single tests
 record Test : Type 0 where

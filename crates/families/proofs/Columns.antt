@@ -21,17 +21,17 @@ module _ {A : Type 0} where
   rowsOf w f (suc n) = tableOf f w ∷ rowsOf w (λ k. f (w + k)) n
 
 -- a signed number of 8 bits as the code reads it
-abbrev read : ℤ → ℤ
+abbrev pub read : ℤ → ℤ
 read z = toZ w8 (ofZ w8 z)
 
 module _ (f : ℕ → ℤ) where
-  abbrev tabled : ℕ → ℕ → ℤ
+  abbrev pub tabled : ℕ → ℕ → ℤ
   tabled n c = read (getD (tableOf f n) c (pos 0))
 
   pub in-table : (n : ℕ) → valuesOf (tabled n) n ≡ valuesOf f n → (c : ℕ) → c < n → tabled n c ≡ f c
   in-table n e c h = agree (tabled n) f n e c h
 
-  abbrev rowed : ℕ → ℕ → ℤ
+  abbrev pub rowed : ℕ → ℕ → ℤ
   rowed n c = read (getD (getD (rowsOf 8 f n) (c / 8) []) (c % 8) (pos 0))
 
   pub in-rows : (n k : ℕ) → valuesOf (rowed n) k ≡ valuesOf f k → (c : ℕ) → c < k → rowed n c ≡ f c

@@ -1,5 +1,6 @@
 mod Centres
 mod Columns
+mod Controls
 mod Families
 mod Runs
 mod Settling

@@ -1,6 +1,6 @@
 -- Where a plan leads, and so a family's choice, from the answers as the code has them. Assumes nothing.
 use mathlib.Core.Path.{_≡_, refl, sym, ap, _∙_}
-use mathlib.Core.Bool.{Bool, true, false, cond, not, _&&_, true≢false}
+use mathlib.Core.Bool.{Bool, true, false, cond}
 use mathlib.Core.List.{List, [], _∷_, map}
 use Prim.Native.Nat.{ℕ, _+_, _-_, _*_, _/_, _%_, _<_, _≤_}
 use native.Mathlib.Omega.{arith}
@@ -21,15 +21,20 @@ use Rattle.families.specs.Tables.{entry, «TEST_3», «TEST_4», «TEST_
 use Rattle.families.specs.Tilings as Tilings
 use Rattle.families.specs.Tilings.{hasCentre}
 use Rattle.families.specs.Plan.{Plan, Answers, Chosen, noTiling, tiling, settled, run, askInTurn, nothing, tile, untiled, ask}
-use Rattle.families.specs.Plans.{plan3, plan4, plan6, part7, plan7, twoFaces, plan10, plan12, tile13, parts13, lastFrom, part13, plan13, three}
+use Rattle.families.specs.Plans.{plan3, plan4, plan6, part7, plan7, plan10, plan12, tile13, parts13, lastFrom, part13, plan13, three}
 use Rattle.families.specs.Answers.{answersOf, sideOf}
-use Rattle.families.proofs.Columns.{tableOf, rowsOf}
+use Rattle.families.proofs.TwoFaces.{planBy}
+use Rattle.families.proofs.Columns.{tableOf, rowsOf, tabled, rowed, in-table, in-rows}
 
 -- a tiling in a table with one tiling a row, by what was counted
 abbrev made : ℕ → ℕ → Notes → Chosen
 made code row m = tiling code row 0 (hasCentre code) m
 
 -- ---- case 3
+pub face-3 : (c : ℕ) → c < 24 → rowed (λ k. getD «TEST_3» k (pos 0)) 3 c ≡ getD «TEST_3» c (pos 0)
+unfolding «TEST_3»
+face-3 = in-rows (λ k. getD «TEST_3» k (pos 0)) 3 24 refl
+
 module _ (q : Cube) (c : ℕ) (z : ℤ) (e : z ≡ getD «TEST_3» c (pos 0)) (b : Bool) (f : b ≡ faceOf q z) where
   pub three-yes : b ≡ true → made Tilings.«TILING_3_2» c noNotes ≡ run (answersOf q) (plan3 c) noNotes
   unfolding run plan3
@@ -50,6 +55,10 @@ unfolding run plan4
 four-settled q c h s e l f = rw (f, e, sym (side-4 c h))
 
 -- ---- case 6
+pub face-6 : (c : ℕ) → c < 48 → rowed (λ k. entry «TEST_6» k 0) 6 c ≡ entry «TEST_6» c 0
+unfolding «TEST_6»
+face-6 = in-rows (λ k. entry «TEST_6» k 0) 6 48 refl
+
 side-6 : (c : ℕ) → c < 48 → entry «TEST_6» c 1 ≡ sideOf (ltb c 24)
 unfolding «TEST_6»
 side-6 c h = agree (λ k. entry «TEST_6» k 1) (λ k. sideOf (ltb k 24)) 48 refl c h
@@ -58,15 +67,15 @@ place-6 : (c : ℕ) → c < 48 → placeOf (entry «TEST_6» c 0) ≡ natAbs (en
 unfolding «TEST_6» placeOf
 place-6 c h = agree (λ k. placeOf (entry «TEST_6» k 0)) (λ k. natAbs (entry «TEST_6» k 0)) 48 refl c h
 
-module _ (q : Cube) (c : ℕ) (h : c < 48) (z : ℤ) (e : z ≡ entry «TEST_6» c 0) (b : Bool) (f : b ≡ faceOf q z) where
-  pub six-yes : b ≡ true → made Tilings.«TILING_6_2» c noNotes ≡ run (answersOf q) (plan6 c) noNotes
+module _ (q : Cube) (c : ℕ) (h : c < 48) (z : ℤ) (e : z ≡ entry «TEST_6» c 0) (b : Bool) (f : b ≡ faceOf q z) (r : Chosen) where
+  pub six-yes : b ≡ true → r ≡ made Tilings.«TILING_6_2» c noNotes → r ≡ run (answersOf q) (plan6 c) noNotes
   unfolding run plan6
-  six-yes g = rw (sym e, sym f, g)
+  six-yes g w = rw (w, sym e, sym f, g)
 
   pub six-settled : b ≡ false → (k : ℕ) → k ≡ placeOf z → (s : ℤ) → s ≡ sideOf (ltb c 24) → (l : Look) → l ≡ insideOf q (k ∷ []) s
-      → settled l (made Tilings.«TILING_6_1_1» c) (made Tilings.«TILING_6_1_2» c) noNotes ≡ run (answersOf q) (plan6 c) noNotes
+      → r ≡ settled l (made Tilings.«TILING_6_1_1» c) (made Tilings.«TILING_6_1_2» c) noNotes → r ≡ run (answersOf q) (plan6 c) noNotes
   unfolding run plan6
-  six-settled g k i s j l t = rw (t, i, j, e, sym (ap (faceOf q) e), sym f, g, place-6 c h, sym (side-6 c h))
+  six-settled g k i s j l t w = rw (w, t, i, j, e, sym (ap (faceOf q) e), sym f, g, place-6 c h, sym (side-6 c h))
 
 -- ---- the faces asked in turn
 module _ (w : Answers) where
@@ -127,38 +136,45 @@ seven-asked q c x y z ex ey ez b0 b1 b2 f0 f1 f2 sub e =
     rw (e, f0, f1, f2, ex, ey, ez) (sym (in-turn (answersOf q) (entry «TEST_7» c 0 ∷ entry «TEST_7» c 1 ∷ entry «TEST_7» c 2 ∷ []) (part7 c) noNotes))
 
 -- ---- cases 10 and 12: the plan of two faces, as the code has it
-module _ (c : ℕ) (x y : ℤ) where
-  side-10 : (k : ℕ) → k < 6 → entry «TEST_10» k 2 ≡ pos 7
-  unfolding «TEST_10»
-  side-10 = agree (λ k. entry «TEST_10» k 2) (λ k. pos 7) 6 refl
+side-10 : (k : ℕ) → k < 6 → entry «TEST_10» k 2 ≡ pos 7
+unfolding «TEST_10»
+side-10 = agree (λ k. entry «TEST_10» k 2) (λ k. pos 7) 6 refl
 
-  place-10 : (k : ℕ) → k < 6 → natAbs (entry «TEST_10» k 0) ≡ placeOf (entry «TEST_10» k 0)
-  unfolding «TEST_10» placeOf
-  place-10 = agree (λ k. natAbs (entry «TEST_10» k 0)) (λ k. placeOf (entry «TEST_10» k 0)) 6 refl
+place-10 : (k : ℕ) → k < 6 → natAbs (entry «TEST_10» k 0) ≡ placeOf (entry «TEST_10» k 0)
+unfolding «TEST_10» placeOf
+place-10 = agree (λ k. natAbs (entry «TEST_10» k 0)) (λ k. placeOf (entry «TEST_10» k 0)) 6 refl
 
-  pub ten : c < 6 → x ≡ entry «TEST_10» c 0 → y ≡ entry «TEST_10» c 1
-      → plan10 c
-      ≡ twoFaces x y (pos 7) (placeOf x ∷ []) (tile Tilings.«TILING_10_1_1_» c 0) (tile Tilings.«TILING_10_1_2» (5 - c) 0) (tile Tilings.«TILING_10_2» c 0)
-      (tile Tilings.«TILING_10_2_» c 0) (tile Tilings.«TILING_10_1_1» c 0) (tile Tilings.«TILING_10_1_2» c 0)
-  unfolding plan10
-  ten h ex ey = rw (ex, ey, side-10 c h, place-10 c h)
+abbrev tens : ℕ → ℤ → ℤ → Plan
+tens c x y = planBy x y (placeOf x ∷ []) Tilings.«TILING_10_1_1» Tilings.«TILING_10_1_1_» Tilings.«TILING_10_1_2» Tilings.«TILING_10_2» Tilings.«TILING_10_2_» c (5 - c)
 
-  side-12 : (k : ℕ) → k < 24 → entry «TEST_12» k 2 ≡ pos 7
-  unfolding «TEST_12»
-  side-12 = agree (λ k. entry «TEST_12» k 2) (λ k. pos 7) 24 refl
+tens-of : (c : ℕ) (x y : ℤ) → c < 6 → x ≡ entry «TEST_10» c 0 → y ≡ entry «TEST_10» c 1 → plan10 c ≡ tens c x y
+unfolding plan10
+tens-of c x y h ex ey = rw (ex, ey, side-10 c h, place-10 c h)
 
-  place-12 : (j k : ℕ) → j < 2 → k < 24 → natAbs (entry «TEST_12» k j) ≡ placeOf (entry «TEST_12» k j)
-  place-12 j k i h = agree (λ l. natAbs (entry «TEST_12» k l)) (λ l. placeOf (entry «TEST_12» k l)) 2 (both k h) j i
-    where
-      both : (k : ℕ) → k < 24 → valuesOf (λ l. natAbs (entry «TEST_12» k l)) 2 ≡ valuesOf (λ l. placeOf (entry «TEST_12» k l)) 2
-      both = agree (λ k. valuesOf (λ l. natAbs (entry «TEST_12» k l)) 2) (λ k. valuesOf (λ l. placeOf (entry «TEST_12» k l)) 2) 24 (unfold «TEST_12» placeOf in refl)
+pub ten : (c : ℕ) → c < 6 → plan10 c ≡ tens c (tabled (λ k. entry «TEST_10» k 0) 6 c) (tabled (λ k. entry «TEST_10» k 1) 6 c)
+unfolding «TEST_10»
+ten c h = tens-of c _ _ h (in-table (λ k. entry «TEST_10» k 0) 6 refl c h) (in-table (λ k. entry «TEST_10» k 1) 6 refl c h)
 
-  pub twelve : c < 24 → x ≡ entry «TEST_12» c 0 → y ≡ entry «TEST_12» c 1
-      → plan12 c
-      ≡ twoFaces x y (pos 7) (placeOf x ∷ placeOf y ∷ []) (tile Tilings.«TILING_12_1_1_» c 0) (tile Tilings.«TILING_12_1_2» (23 - c) 0) (tile Tilings.«TILING_12_2» c 0)
-      (tile Tilings.«TILING_12_2_» c 0) (tile Tilings.«TILING_12_1_1» c 0) (tile Tilings.«TILING_12_1_2» c 0)
-  unfolding plan12
-  twelve h ex ey = rw (ex, ey, side-12 c h, place-12 0 c (omega arith) h, place-12 1 c (omega arith) h)
+side-12 : (k : ℕ) → k < 24 → entry «TEST_12» k 2 ≡ pos 7
+unfolding «TEST_12»
+side-12 = agree (λ k. entry «TEST_12» k 2) (λ k. pos 7) 24 refl
+
+place-12 : (j k : ℕ) → j < 2 → k < 24 → natAbs (entry «TEST_12» k j) ≡ placeOf (entry «TEST_12» k j)
+place-12 j k i h = agree (λ l. natAbs (entry «TEST_12» k l)) (λ l. placeOf (entry «TEST_12» k l)) 2 (both k h) j i
+  where
+    both : (k : ℕ) → k < 24 → valuesOf (λ l. natAbs (entry «TEST_12» k l)) 2 ≡ valuesOf (λ l. placeOf (entry «TEST_12» k l)) 2
+    both = agree (λ k. valuesOf (λ l. natAbs (entry «TEST_12» k l)) 2) (λ k. valuesOf (λ l. placeOf (entry «TEST_12» k l)) 2) 24 (unfold «TEST_12» placeOf in refl)
+
+abbrev twelves : ℕ → ℤ → ℤ → Plan
+twelves c x y = planBy x y (placeOf x ∷ placeOf y ∷ []) Tilings.«TILING_12_1_1» Tilings.«TILING_12_1_1_» Tilings.«TILING_12_1_2» Tilings.«TILING_12_2» Tilings.«TILING_12_2_» c (23 - c)
+
+twelves-of : (c : ℕ) (x y : ℤ) → c < 24 → x ≡ entry «TEST_12» c 0 → y ≡ entry «TEST_12» c 1 → plan12 c ≡ twelves c x y
+unfolding plan12
+twelves-of c x y h ex ey = rw (ex, ey, side-12 c h, place-12 0 c (omega arith) h, place-12 1 c (omega arith) h)
+
+pub twelve : (c : ℕ) → c < 24 → plan12 c ≡ twelves c (rowed (λ k. entry «TEST_12» k 0) 3 c) (rowed (λ k. entry «TEST_12» k 1) 3 c)
+unfolding «TEST_12»
+twelve c h = twelves-of c _ _ h (in-rows (λ k. entry «TEST_12» k 0) 3 24 refl c h) (in-rows (λ k. entry «TEST_12» k 1) 3 24 refl c h)
 
 -- ---- case 13
 module _ (q : Cube) (c code column : ℕ) where

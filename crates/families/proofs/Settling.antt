@@ -3,7 +3,7 @@ use mathlib.Core.Path.{_≡_, ap}
 use mathlib.Core.Bool.{Bool, true, false}
 use Prim.Native.Nat.{ℕ}
 use native.Mathlib.Omega.{arith}
-use lib.IntN.{ℤ, negsuc}
+use lib.IntN.{negsuc}
 use Rattle.cube.specs.declared.Refusal.{Refusal}
 use Rattle.cube.specs.Refusals.{refusalNumber}
 use Rattle.notes.specs.declared.Notes.{Notes}

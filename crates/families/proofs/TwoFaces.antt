@@ -30,26 +30,29 @@ one-face k n e = rw e
 pub two-faces : (k l n m : ℕ) → k ≡ n → l ≡ m → k ∷ l ∷ [] ≡ n ∷ m ∷ []
 two-faces k l n m e f = rw (e, f)
 
--- `t11` is the tiling N_1_1 and `t11-` N_1_1_
-module _ (q : Cube) (plan : Plan) (x y : ℤ) (ns : List ℕ) (t11 t11- t12 t2 t2- row other : ℕ)
-    (e : plan ≡ twoFaces x y (pos 7) ns (tile t11- row 0) (tile t12 other 0) (tile t2 row 0) (tile t2- row 0) (tile t11 row 0) (tile t12 row 0))
-    (b d : Bool) (f : b ≡ faceOf q x) (g : d ≡ faceOf q y) where
+-- the plan where s is 7; `t11` is the tiling N_1_1 and `t11-` N_1_1_
+abbrev pub planBy : ℤ → ℤ → List ℕ → ℕ → ℕ → ℕ → ℕ → ℕ → ℕ → ℕ → Plan
+planBy x y ns t11 t11- t12 t2 t2- row other =
+    twoFaces x y (pos 7) ns (tile t11- row 0) (tile t12 other 0) (tile t2 row 0) (tile t2- row 0) (tile t11 row 0) (tile t12 row 0)
+
+module _ (q : Cube) (plan : Plan) (x y : ℤ) (ns : List ℕ) (t11 t11- t12 t2 t2- row other : ℕ) (e : plan ≡ planBy x y ns t11 t11- t12 t2 t2- row other)
+    (b d : Bool) (f : b ≡ faceOf q x) (g : d ≡ faceOf q y) (r : Chosen) where
   abbrev reached : Chosen
   reached = run (answersOf q) plan noNotes
 
-  pub by-first : b && not d ≡ true → tiling t2 row 0 (hasCentre t2) noNotes ≡ reached
+  pub by-first : b && not d ≡ true → r ≡ tiling t2 row 0 (hasCentre t2) noNotes → r ≡ reached
   unfolding run twoFaces
-  by-first h = rw (e, sym f ∙ alone b d h .0, sym g ∙ alone b d h .1)
+  by-first h w = rw (w, e, sym f ∙ alone b d h .0, sym g ∙ alone b d h .1)
 
-  pub by-second : d && not b ≡ true → tiling t2- row 0 (hasCentre t2-) noNotes ≡ reached
+  pub by-second : d && not b ≡ true → r ≡ tiling t2- row 0 (hasCentre t2-) noNotes → r ≡ reached
   unfolding run twoFaces
-  by-second h = rw (e, sym f ∙ alone d b h .1, sym g ∙ alone d b h .0)
+  by-second h w = rw (w, e, sym f ∙ alone d b h .1, sym g ∙ alone d b h .0)
 
   module _ (h : b && not d ≡ false) (i : d && not b ≡ false) (s : ℤ) (u : s ≡ sideOf (not b)) (ks : List ℕ) (k : ks ≡ ns) (l : Look) (v : l ≡ insideOf q ks s) where
-    pub by-both : b ≡ true → settled l (tiling t11- row 0 (hasCentre t11-)) (tiling t12 other 0 (hasCentre t12)) noNotes ≡ reached
+    pub by-both : b ≡ true → r ≡ settled l (tiling t11- row 0 (hasCentre t11-)) (tiling t12 other 0 (hasCentre t12)) noNotes → r ≡ reached
     unfolding run twoFaces
-    by-both t = rw (e, v, k, u, sym f ∙ t, sym g ∙ alike b d h i ∙ t, t)
+    by-both t w = rw (w, e, v, k, u, sym f ∙ t, sym g ∙ alike b d h i ∙ t, t)
 
-    pub by-none : b ≡ false → settled l (tiling t11 row 0 (hasCentre t11)) (tiling t12 row 0 (hasCentre t12)) noNotes ≡ reached
+    pub by-none : b ≡ false → r ≡ settled l (tiling t11 row 0 (hasCentre t11)) (tiling t12 row 0 (hasCentre t12)) noNotes → r ≡ reached
     unfolding run twoFaces
-    by-none t = rw (e, v, k, u, sym f ∙ t, sym g ∙ alike b d h i ∙ t, t)
+    by-none t w = rw (w, e, v, k, u, sym f ∙ t, sym g ∙ alike b d h i ∙ t, t)

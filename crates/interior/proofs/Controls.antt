@@ -5,10 +5,10 @@ use mathlib.Core.Bool.{Bool, true, false}
 use mathlib.Core.List.{List, [], _∷_, map}
 use Prim.Native.Nat.{ℕ}
 use lib.IntN.{ℤ, pos, negsuc}
-use lib.Ieee.{binary32, ofBits, neg, add, sub, mul, div, lt, eq, isNan, ofInt}
+use lib.Ieee.{ofBits, neg, add, sub, mul, div, lt, eq, isNan, ofInt}
 use Rattle.binary32.specs.Numbers.{f32}
 use Rattle.cube.specs.declared.Cube.{Cube}
-use Rattle.cube.specs.Corners.{corners, valueAt, cornerOf}
+use Rattle.cube.specs.Corners.{corners, valueAt, cornerOf, cube}
 use Rattle.edge.specs.Edge.{moves, moveOf, crossBy, readBy, edgeBy}
 use Rattle.interior.specs.Pick as Pick
 use Rattle.interior.specs.Pick.{diagonals, lastMatch, Picked, edge, pickWith, pickBy}
@@ -23,18 +23,6 @@ down = 0xbf800000
 
 abbrev minus-zero : ℕ
 minus-zero = 0x80000000
-
-abbrev cube : ℕ → ℕ → ℕ → ℕ → ℕ → ℕ → ℕ → ℕ → Cube
-cube a b c d e f g h = record {
-  c0 = ofBits binary32 a;
-  c1 = ofBits binary32 b;
-  c2 = ofBits binary32 c;
-  c3 = ofBits binary32 d;
-  c4 = ofBits binary32 e;
-  c5 = ofBits binary32 f;
-  c6 = ofBits binary32 g;
-  c7 = ofBits binary32 h;
-}
 
 -- ---- picks: what is said for faces 0 to 7; 0 and 7 are refused
 record Row : Type 0 where

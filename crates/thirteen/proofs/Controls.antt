@@ -4,25 +4,13 @@ use mathlib.Core.Path.{_≡_, refl}
 use mathlib.Core.Bool.{Bool, true, false}
 use mathlib.Core.List.{List, [], _∷_, map}
 use Prim.Native.Nat.{ℕ}
-use lib.Ieee.{binary32, ofBits, neg, add, sub, mul, div, lt}
+use lib.Ieee.{ofBits, neg, add, sub, mul, div, lt}
 use Rattle.root.specs.Root.{rootWithin, wholeRoot, rootUnits, rootOf}
 use Rattle.cube.specs.declared.Cube.{Cube}
-use Rattle.cube.specs.Corners.{corners, valueAt, cornerOf}
+use Rattle.cube.specs.Corners.{corners, valueAt, cornerOf, cube}
 use Rattle.edge.specs.Edge.{moves, moveOf}
 use Rattle.edge.specs.Columns.{movesOf}
 use Rattle.thirteen.specs.Thirteen.{bothWithin, falseOnly, case13By, case13Of}
-
-abbrev cube : ℕ → ℕ → ℕ → ℕ → ℕ → ℕ → ℕ → ℕ → Cube
-cube a b c d e f g h = record {
-  c0 = ofBits binary32 a;
-  c1 = ofBits binary32 b;
-  c2 = ofBits binary32 c;
-  c3 = ofBits binary32 d;
-  c4 = ofBits binary32 e;
-  c5 = ofBits binary32 f;
-  c6 = ofBits binary32 g;
-  c7 = ofBits binary32 h;
-}
 
 -- 1, 2, -1 and -2
 abbrev p1 : ℕ

@@ -1,8 +1,6 @@
 -- `families::cases::case_10` follows `plan10`.
-use mathlib.Core.Path.{refl, _∙_}
 use borrow.Author.Needs.{needs}
-use Rattle.families.specs.Tables.{entry, «TEST_10»}
-use Rattle.families.proofs.Columns.{in-table}
+use Rattle.families.specs.Tables.{«TEST_10»}
 use Rattle.families.proofs.Runs.{ten}
 use Rattle.families.proofs.TwoFaces.{one-face, by-first, by-second, by-both, by-none}
 use Rattle.families.proofs.cases.case_10.Statement.{statement}
@@ -28,7 +26,7 @@ unfolding «TEST_10»
 returns c =
     let c0 = c .before .before in
     let h = c0 .before .before .before .before .pre in
-    c .plain .ensures ∙ by-first _ _ _ _ _ _ _ _ _ _ _ _ (ten _ _ _ h (in-table (λ k. entry «TEST_10» k 0) 6 refl _ h) (in-table (λ k. entry «TEST_10» k 1) 6 refl _ h)) _ _ (c0 .before .face-answer .ensures .0) (c0 .face-answer2 .ensures .0) (c .before .if1 .taken)
+    by-first _ _ _ _ _ _ _ _ _ _ _ _ (ten _ h) _ _ (c0 .before .face-answer .ensures .0) (c0 .face-answer2 .ensures .0) _ (c .before .if1 .taken) (c .plain .ensures)
 
 plain-requires-2 : tie.Need-plain-requires-2
 plain-requires-2 c κs = search needs
@@ -38,7 +36,7 @@ unfolding «TEST_10»
 returns-2 c =
     let c0 = c .before .before .before in
     let h = c0 .before .before .before .before .pre in
-    c .plain2 .ensures ∙ by-second _ _ _ _ _ _ _ _ _ _ _ _ (ten _ _ _ h (in-table (λ k. entry «TEST_10» k 0) 6 refl _ h) (in-table (λ k. entry «TEST_10» k 1) 6 refl _ h)) _ _ (c0 .before .face-answer .ensures .0) (c0 .face-answer2 .ensures .0) (c .before .if2 .taken)
+    by-second _ _ _ _ _ _ _ _ _ _ _ _ (ten _ h) _ _ (c0 .before .face-answer .ensures .0) (c0 .face-answer2 .ensures .0) _ (c .before .if2 .taken) (c .plain2 .ensures)
 
 ambiguous-requires : tie.Need-ambiguous-requires
 ambiguous-requires c κs = search needs
@@ -61,7 +59,7 @@ returns-3 c =
     let c0' = c .before .before .before .before .before in
     let c0 = c0' .before .before in
     let h = c0 .before .before .before .before .pre in
-    c .settle .ensures ∙ by-both _ _ _ _ _ _ _ _ _ _ _ _ (ten _ _ _ h (in-table (λ k. entry «TEST_10» k 0) 6 refl _ h) (in-table (λ k. entry «TEST_10» k 1) 6 refl _ h)) _ _ (c0 .before .face-answer .ensures .0) (c0 .face-answer2 .ensures .0) (c0' .before .if1 .left) (c0' .if2 .left) _ (c .before .before .before .side .ensures) _ (one-face _ _ (c .before .before .before .before .ambiguous .ensures)) _ (c .before .before .test-interior .ensures) (c .before .if3 .taken)
+    by-both _ _ _ _ _ _ _ _ _ _ _ _ (ten _ h) _ _ (c0 .before .face-answer .ensures .0) (c0 .face-answer2 .ensures .0) _ (c0' .before .if1 .left) (c0' .if2 .left) _ (c .before .before .before .side .ensures) _ (one-face _ _ (c .before .before .before .before .ambiguous .ensures)) _ (c .before .before .test-interior .ensures) (c .before .if3 .taken) (c .settle .ensures)
 
 settle-requires-2 : tie.Need-settle-requires-2
 settle-requires-2 c κs = search needs
@@ -72,7 +70,7 @@ returns-4 c =
     let c0' = c .before .before .before .before .before in
     let c0 = c0' .before .before in
     let h = c0 .before .before .before .before .pre in
-    c .settle2 .ensures ∙ by-none _ _ _ _ _ _ _ _ _ _ _ _ (ten _ _ _ h (in-table (λ k. entry «TEST_10» k 0) 6 refl _ h) (in-table (λ k. entry «TEST_10» k 1) 6 refl _ h)) _ _ (c0 .before .face-answer .ensures .0) (c0 .face-answer2 .ensures .0) (c0' .before .if1 .left) (c0' .if2 .left) _ (c .before .before .before .side .ensures) _ (one-face _ _ (c .before .before .before .before .ambiguous .ensures)) _ (c .before .before .test-interior .ensures) (c .before .if3 .left)
+    by-none _ _ _ _ _ _ _ _ _ _ _ _ (ten _ h) _ _ (c0 .before .face-answer .ensures .0) (c0 .face-answer2 .ensures .0) _ (c0' .before .if1 .left) (c0' .if2 .left) _ (c .before .before .before .side .ensures) _ (one-face _ _ (c .before .before .before .before .ambiguous .ensures)) _ (c .before .before .test-interior .ensures) (c .before .if3 .left) (c .settle2 .ensures)
 
 pub case-10-spec : {M : Type 1} → statement M
 case-10-spec =

@@ -1,11 +1,8 @@
 -- `families::cases::case_3` follows `plan3`.
-use mathlib.Core.Path.{refl, _∙_}
+use mathlib.Core.Path.{_∙_}
 use borrow.Author.Needs.{needs}
-use lib.IntN.{pos}
-use lib.ListN.{getD}
 use Rattle.families.specs.Tables.{«TEST_3»}
-use Rattle.families.proofs.Columns.{in-rows}
-use Rattle.families.proofs.Runs.{three-yes, three-no}
+use Rattle.families.proofs.Runs.{face-3, three-yes, three-no}
 use Rattle.families.proofs.cases.case_3.Statement.{statement}
 use Rattle.families.proofs.cases.case_3.Tie as tie
 
@@ -32,14 +29,14 @@ plain-requires c κs = search needs
 
 returns : tie.Need-returns
 unfolding «TEST_3»
-returns c = c .plain .ensures ∙ three-yes _ _ _ (in-rows (λ k. getD «TEST_3» k (pos 0)) 3 24 refl _ (c .before .before .before .before .pre)) _ (c .before .before .face-answer .ensures .0) (c .before .if1 .taken)
+returns c = c .plain .ensures ∙ three-yes _ _ _ (face-3 _ (c .before .before .before .before .pre)) _ (c .before .before .face-answer .ensures .0) (c .before .if1 .taken)
 
 plain-requires-2 : tie.Need-plain-requires-2
 plain-requires-2 c κs = search needs
 
 returns-2 : tie.Need-returns-2
 unfolding «TEST_3»
-returns-2 c = c .plain2 .ensures ∙ three-no _ _ _ (in-rows (λ k. getD «TEST_3» k (pos 0)) 3 24 refl _ (c .before .before .before .before .pre)) _ (c .before .before .face-answer .ensures .0) (c .before .if1 .left)
+returns-2 c = c .plain2 .ensures ∙ three-no _ _ _ (face-3 _ (c .before .before .before .before .pre)) _ (c .before .before .face-answer .ensures .0) (c .before .if1 .left)
 
 pub case-3-spec : {M : Type 1} → statement M
 case-3-spec =

@@ -1,9 +1,7 @@
 -- `families::cases::case_6` follows `plan6`.
-use mathlib.Core.Path.{refl, _∙_}
 use borrow.Author.Needs.{needs}
-use Rattle.families.specs.Tables.{entry, «TEST_6»}
-use Rattle.families.proofs.Columns.{in-rows}
-use Rattle.families.proofs.Runs.{six-yes, six-settled}
+use Rattle.families.specs.Tables.{«TEST_6»}
+use Rattle.families.proofs.Runs.{face-6, six-yes, six-settled}
 use Rattle.families.proofs.cases.case_6.Statement.{statement}
 use Rattle.families.proofs.cases.case_6.Tie as tie
 
@@ -30,7 +28,7 @@ plain-requires c κs = search needs
 
 returns : tie.Need-returns
 unfolding «TEST_6»
-returns c = c .plain .ensures ∙ six-yes _ _ (c .before .before .before .before .pre) _ (in-rows (λ k. entry «TEST_6» k 0) 6 48 refl _ (c .before .before .before .before .pre)) _ (c .before .before .face-answer .ensures .0) (c .before .if1 .taken)
+returns c = six-yes _ _ (c .before .before .before .before .pre) _ (face-6 _ (c .before .before .before .before .pre)) _ (c .before .before .face-answer .ensures .0) _ (c .before .if1 .taken) (c .plain .ensures)
 
 ambiguous-requires : tie.Need-ambiguous-requires
 ambiguous-requires c κs = search needs
@@ -49,7 +47,7 @@ unfolding «TEST_6»
 returns-2 c =
     let c0 = c .before .before .before .before in
     let h = c0 .before .before .before .pre in
-    c .settle .ensures ∙ six-settled _ _ h _ (in-rows (λ k. entry «TEST_6» k 0) 6 48 refl _ h) _ (c0 .before .face-answer .ensures .0) (c0 .if1 .left) _ (c .before .before .before .ambiguous .ensures) _ (c .before .before .side .ensures) _ (c .before .test-interior .ensures)
+    six-settled _ _ h _ (face-6 _ h) _ (c0 .before .face-answer .ensures .0) _ (c0 .if1 .left) _ (c .before .before .before .ambiguous .ensures) _ (c .before .before .side .ensures) _ (c .before .test-interior .ensures) (c .settle .ensures)
 
 pub case-6-spec : {M : Type 1} → statement M
 case-6-spec =
