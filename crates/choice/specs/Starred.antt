@@ -1,9 +1,9 @@
 -- Document 01, 'Cubes to check by hand': the starred cubes, one table. Values are written as bits: 1 is 3f800000, -1 bf800000. Definitions only.
 use Prim.Native.Nat.{ℕ}
 use mathlib.Core.Path.{_≡_}
-use mathlib.Core.Bool.{true, false}
+use mathlib.Core.Bool.{false}
 use mathlib.Core.List.{List, [], _∷_, map}
-use lib.IntN.{ℤ, pos}
+use lib.IntN.{pos}
 use Rattle.cube.specs.declared.Cube.{Cube}
 use Rattle.cube.specs.Corners.{cube}
 use Rattle.families.specs.Tilings.{«TILING_3_1», «TILING_3_2», «TILING_4_1», «TILING_4_2», «TILING_7_4_2», «TILING_10_1_2», «TILING_13_1», «TILING_13_1_»}

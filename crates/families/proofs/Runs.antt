@@ -128,12 +128,26 @@ seven-tabled q c sub l h =
     agree (λ k. tiling (getD (tableOf code7 7) k 0) c (getD (tableOf column7 7) k 0) (hasCentre (getD (tableOf code7 7) k 0)) noNotes) (λ k. run (answersOf q) (part7 c k) noNotes) 7 refl sub
     (omega (arith, l, h))
 
-pub seven-asked : (q : Cube) (c : ℕ) (x y z : ℤ) → x ≡ entry «TEST_7» c 0 → y ≡ entry «TEST_7» c 1 → z ≡ entry «TEST_7» c 2
-    → (b0 b1 b2 : Bool) → b0 ≡ faceOf q x → b1 ≡ faceOf q y → b2 ≡ faceOf q z → (sub : ℕ) → sub ≡ numberOf (b0 ∷ b1 ∷ b2 ∷ [])
+-- three answers as one number
+pub three-answers : (q : Cube) (x y z : ℤ) (b0 b1 b2 : Bool) → b0 ≡ faceOf q x → b1 ≡ faceOf q y → b2 ≡ faceOf q z
+    → (r : ℕ) → (r ≤ 7) × (r ≡ numberOf (b0 ∷ b1 ∷ b2 ∷ [])) → (r ≤ 7) × (r ≡ numberOf (map (faceOf q) (x ∷ y ∷ z ∷ [])))
+three-answers q x y z b0 b1 b2 e f g r (l, h) = (l, h ∙ rw (e, f, g))
+
+-- the faces of the case
+abbrev faces7 : ℕ → List ℤ
+faces7 c = entry «TEST_7» c 0 ∷ entry «TEST_7» c 1 ∷ entry «TEST_7» c 2 ∷ []
+
+abbrev read7 : ℕ → ℕ → ℤ
+read7 k c = rowed (λ j. entry «TEST_7» j k) 2 c
+
+reads7 : (c : ℕ) → c < 16 → read7 0 c ∷ read7 1 c ∷ read7 2 c ∷ [] ≡ faces7 c
+unfolding «TEST_7»
+reads7 = agree (λ c. read7 0 c ∷ read7 1 c ∷ read7 2 c ∷ []) faces7 16 refl
+
+pub seven-asked : (q : Cube) (c : ℕ) → c < 16 → (sub : ℕ) → sub ≡ numberOf (map (faceOf q) (read7 0 c ∷ read7 1 c ∷ read7 2 c ∷ []))
     → run (answersOf q) (part7 c sub) noNotes ≡ run (answersOf q) (plan7 c) noNotes
 unfolding plan7
-seven-asked q c x y z ex ey ez b0 b1 b2 f0 f1 f2 sub e =
-    rw (e, f0, f1, f2, ex, ey, ez) (sym (in-turn (answersOf q) (entry «TEST_7» c 0 ∷ entry «TEST_7» c 1 ∷ entry «TEST_7» c 2 ∷ []) (part7 c) noNotes))
+seven-asked q c h sub e = rw (e, ap (λ ns. numberOf (map (faceOf q) ns)) (reads7 c h)) (sym (in-turn (answersOf q) (faces7 c) (part7 c) noNotes))
 
 -- ---- cases 10 and 12: the plan of two faces, as the code has it
 side-10 : (k : ℕ) → k < 6 → entry «TEST_10» k 2 ≡ pos 7
@@ -213,21 +227,30 @@ pub some-tiling : (q : Cube) (c sub : ℕ) → sub ≤ 63 → (code13 sub ≡ 0 
     → run (answersOf q) (tile13 c (code13 sub) (column13 sub)) noNotes ≡ run (answersOf q) (part c sub) noNotes
 some-tiling q c sub l h = rw (sym (parted c sub l), ne-eqb (code13 sub) 0 h)
 
-six-bits : (b0 b1 b2 b3 b4 b5 : Bool) (k l : ℕ) → k ≡ numberOf (b0 ∷ b1 ∷ b2 ∷ []) → l ≡ numberOf (b3 ∷ b4 ∷ b5 ∷ [])
-    → k + 8 * l ≡ numberOf (b0 ∷ b1 ∷ b2 ∷ b3 ∷ b4 ∷ b5 ∷ [])
+three-and-three : (f : ℤ → Bool) (x y z u v w : ℤ) (k l : ℕ) → k ≡ numberOf (map f (x ∷ y ∷ z ∷ [])) → l ≡ numberOf (map f (u ∷ v ∷ w ∷ []))
+    → k + 8 * l ≡ numberOf (map f (x ∷ y ∷ z ∷ u ∷ v ∷ w ∷ []))
 unfolding numberOf
-six-bits b0 b1 b2 b3 b4 b5 k l e f = omega (arith, e, f)
+three-and-three f x y z u v w k l e g = omega (arith, e, g)
 
--- face k of the case
+-- the faces of the case, and as the code reads them
 abbrev face13 : ℕ → ℕ → ℤ
-face13 c k = entry «TEST_13» c k
+face13 k c = entry «TEST_13» c k
 
-pub thirteen-asked : (q : Cube) (c : ℕ) (z0 z1 z2 z3 z4 z5 : ℤ)
-    → z0 ≡ face13 c 0 → z1 ≡ face13 c 1 → z2 ≡ face13 c 2 → z3 ≡ face13 c 3 → z4 ≡ face13 c 4 → z5 ≡ face13 c 5
-    → (b0 b1 b2 b3 b4 b5 : Bool) → b0 ≡ faceOf q z0 → b1 ≡ faceOf q z1 → b2 ≡ faceOf q z2 → b3 ≡ faceOf q z3 → b4 ≡ faceOf q z4 → b5 ≡ faceOf q z5
-    → (k l : ℕ) → k ≡ numberOf (b0 ∷ b1 ∷ b2 ∷ []) → l ≡ numberOf (b3 ∷ b4 ∷ b5 ∷ [])
-    → run (answersOf q) (part13 c (k + 8 * l) (getD «SUB_CONFIG_13» (k + 8 * l) (negsuc 0))) noNotes ≡ run (answersOf q) (plan13 c) noNotes
+abbrev faces13 : (ℕ → ℕ → ℤ) → ℕ → List ℤ
+faces13 f c = f 0 c ∷ f 1 c ∷ f 2 c ∷ f 3 c ∷ f 4 c ∷ f 5 c ∷ []
+
+abbrev read13 : ℕ → ℕ → ℤ
+read13 k c = tabled (face13 k) 2 c
+
+reads13 : (c : ℕ) → c < 2 → faces13 read13 c ≡ faces13 face13 c
+unfolding «TEST_13»
+reads13 = agree (faces13 read13) (faces13 face13) 2 refl
+
+pub thirteen-asked : (q : Cube) (c : ℕ) → c < 2 → (k l : ℕ)
+    → k ≡ numberOf (map (faceOf q) (read13 0 c ∷ read13 1 c ∷ read13 2 c ∷ [])) → l ≡ numberOf (map (faceOf q) (read13 3 c ∷ read13 4 c ∷ read13 5 c ∷ []))
+    → run (answersOf q) (part c (k + 8 * l)) noNotes ≡ run (answersOf q) (plan13 c) noNotes
 unfolding plan13
-thirteen-asked q c z0 z1 z2 z3 z4 z5 e0 e1 e2 e3 e4 e5 b0 b1 b2 b3 b4 b5 f0 f1 f2 f3 f4 f5 k l g h =
-    rw (six-bits b0 b1 b2 b3 b4 b5 k l g h, f0, f1, f2, f3, f4, f5, e0, e1, e2, e3, e4, e5)
-    (sym (in-turn (answersOf q) (face13 c 0 ∷ face13 c 1 ∷ face13 c 2 ∷ face13 c 3 ∷ face13 c 4 ∷ face13 c 5 ∷ []) (λ sub. part13 c sub (getD «SUB_CONFIG_13» sub (negsuc 0))) noNotes))
+thirteen-asked q c h k l e f =
+    rw (three-and-three (faceOf q) (read13 0 c) (read13 1 c) (read13 2 c) (read13 3 c) (read13 4 c) (read13 5 c) k l e f
+    ∙ ap (λ ns. numberOf (map (faceOf q) ns)) (reads13 c h))
+    (sym (in-turn (answersOf q) (faces13 face13 c) (part c) noNotes))

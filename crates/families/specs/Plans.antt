@@ -44,7 +44,7 @@ part7 c sub =
 unfoldable pub plan7 : ℕ → Plan
 plan7 c = askInTurn (entry «TEST_7» c 0 ∷ entry «TEST_7» c 1 ∷ entry «TEST_7» c 2 ∷ []) (part7 c)
 
--- cases 10 and 12 ask two faces. Both true: the interior test takes -s, and then s where both are false
+-- cases 10 and 12 ask two faces. With both true the interior test takes -s, with both false s
 unfoldable pub twoFaces : ℤ → ℤ → ℤ → List ℕ → Plan → Plan → Plan → Plan → Plan → Plan → Plan
 twoFaces first second s ns both-yes both-no first-alone second-alone none-yes none-no =
     ask (face first)

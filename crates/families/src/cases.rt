@@ -1,10 +1,13 @@
 // The cases of document 01, 'Choice', that ask something: for each the columns of its TEST table, eight
-// rows to a line, and its function, which follows the case's plan. The column s is a rule: 7 in the rows
-// whose faces are above 0, -7 in the others.
+// rows to a line, and its function, which follows the case's plan. The column s is a rule: 7 in the
+// first half of the rows of cases 4, 6 and 7, -7 in the second, and 7 in cases 10 and 12.
 ghost use mathlib.Core.Path.{_≡_};
+ghost use mathlib.Core.List.{[], _∷_, map};
 ghost use Prim.Native.Nat.{_<_, _≤_};
 ghost use lib.IntN.{negsuc};
 ghost use lib.ListN.{getD};
+ghost use Rattle.cube.specs.Bits.{numberOf};
+ghost use Rattle.face.specs.Face.{faceOf};
 ghost use Rattle.face.specs.Columns.{placeOf};
 ghost use Rattle.notes.specs.Notes.{noNotes};
 ghost use Rattle.families.specs.Plan.{run};
@@ -88,6 +91,13 @@ pub fn case_6(q: Cube, c: u8) -> Choice
     settle(found, TILING_6_1_1, c, TILING_6_1_2, c)
 }
 
+// Three faces asked: 1 for the first, 2 for the second, 4 for the third.
+fn ask_three(q: Cube, x: Face, y: Face, z: Face) -> u32
+    ensures { λ r. ⌜ (r ≤ 7) × (r ≡ numberOf (map (faceOf q) (x .0 ∷ y .0 ∷ z .0 ∷ []))) ⌝ }
+{
+    three(face_answer(q, x), face_answer(q, y), face_answer(q, z))
+}
+
 const FIRST_7: [[i8; 8]; 2] = [[1, 3, 4, 4, 2, 1, 2, 3], [-3, -2, -1, -2, -4, -4, -3, -1]];
 
 const SECOND_7: [[i8; 8]; 2] = [[2, 4, 1, 1, 3, 2, 3, 4], [-4, -3, -2, -3, -1, -1, -4, -2]];
@@ -130,10 +140,13 @@ pub fn case_7(q: Cube, c: u8) -> Choice
 {
     let i = (c / 8) as usize;
     let k = (c % 8) as usize;
-    let b0 = face_answer(q, Face(FIRST_7[i][k]));
-    let b1 = face_answer(q, Face(SECOND_7[i][k]));
-    let b2 = face_answer(q, Face(THIRD_7[i][k]));
-    part_7(q, c, three(b0, b1, b2))
+    let sub = ask_three(
+        q,
+        Face(FIRST_7[i][k]),
+        Face(SECOND_7[i][k]),
+        Face(THIRD_7[i][k]),
+    );
+    part_7(q, c, sub)
 }
 
 const FIRST_10: [i8; 6] = [2, 5, 1, 1, 5, 2];
@@ -275,11 +288,7 @@ pub fn case_13(q: Cube, c: u8) -> Choice
     ensures { λ r. ⌜ chosen r ≡ run (answersOf q) (plan13 c) noNotes ⌝ }
 {
     let i = c as usize;
-    let b0 = face_answer(q, Face(FIRST_13[i]));
-    let b1 = face_answer(q, Face(SECOND_13[i]));
-    let b2 = face_answer(q, Face(THIRD_13[i]));
-    let b3 = face_answer(q, Face(FOURTH_13[i]));
-    let b4 = face_answer(q, Face(FIFTH_13[i]));
-    let b5 = face_answer(q, Face(SIXTH_13[i]));
-    part_13(q, c, three(b0, b1, b2) + 8 * three(b3, b4, b5))
+    let low = ask_three(q, Face(FIRST_13[i]), Face(SECOND_13[i]), Face(THIRD_13[i]));
+    let high = ask_three(q, Face(FOURTH_13[i]), Face(FIFTH_13[i]), Face(SIXTH_13[i]));
+    part_13(q, c, low + 8 * high)
 }

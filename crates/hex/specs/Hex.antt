@@ -1,7 +1,7 @@
 -- Numbers in lower-case hex digits, the first digit the highest, at a place of a line. What is no number has the
 -- value that comes after the greatest: 16 for a digit, 256 for two, 2^32 for eight. Definitions only.
 use Prim.Native.Nat.{ℕ, _+_, _-_, _*_}
-use mathlib.Core.Bool.{Bool, _&&_, cond}
+use mathlib.Core.Bool.{_&&_, cond}
 use mathlib.Core.List.{List}
 use lib.Dec.{ltb, leb}
 use lib.ListN.{getD}

@@ -1,5 +1,5 @@
 -- The diagonal pick as code makes it: the four pairs, their set as a number, and the edge that is its digit. Assumes nothing.
-use mathlib.Core.Path.{_≡_, refl, sym, ap, subst}
+use mathlib.Core.Path.{_≡_, refl, sym, subst}
 use mathlib.Core.Logic.{inl, inr}
 use mathlib.Core.Bool.{Bool, true, false, _&&_, _||_, and-false, true≢false}
 use mathlib.Core.List.{[], _∷_}

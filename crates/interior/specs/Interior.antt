@@ -1,7 +1,7 @@
 -- Document 01, 'Interior test', over any kind of number. Definitions only.
 use Prim.Native.Nat.{ℕ}
 use mathlib.Core.Bool.{Bool, false, cond, _||_}
-use mathlib.Core.List.{List, [], _∷_, map, foldr}
+use mathlib.Core.List.{List, map, foldr}
 use lib.IntN.{ℤ}
 use Rattle.binary32.specs.Numbers.{Numbers, f32}
 use Rattle.cube.specs.declared.Cube.{Cube}

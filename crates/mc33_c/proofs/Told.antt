@@ -23,7 +23,6 @@ use Rattle.families.specs.Plan.{refused}
 use Rattle.families.specs.Answers.{chosen}
 use Rattle.choice.specs.Choice.{choiceOf}
 use Rattle.mc33_c.specs.declared.Mc33Choice.{Mc33Choice}
-use Rattle.mc33_c.specs.declared.Mc33Face.{Mc33Face}
 use Rattle.mc33_c.specs.declared.Mc33Edge.{Mc33Edge}
 use Rattle.mc33_c.specs.Answers.{answered, choiceNumbers, faceNumbers, readingNumbers, edgeNumbers}
 

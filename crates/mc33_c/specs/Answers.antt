@@ -1,6 +1,6 @@
 -- The answers of the C interface as numbers, from what the routines' own promises say. Definitions only.
 use Prim.Native.Nat.{ℕ}
-use mathlib.Core.Bool.{Bool, false}
+use mathlib.Core.Bool.{false}
 use lib.IntN.{pos}
 use lib.Ieee.{Float, fin}
 use Rattle.cube.specs.Bits.{bitOf}

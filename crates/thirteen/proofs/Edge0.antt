@@ -1,5 +1,5 @@
 -- The case-13 test from what the code finds in turn; edge 0's u1×u3 - u2×u4 is document 01's c1×c6 - c5×c2. Assumes nothing.
-use mathlib.Core.Path.{_≡_, refl}
+use mathlib.Core.Path.{_≡_}
 use mathlib.Core.Bool.{Bool}
 use mathlib.Core.List.{List}
 use lib.IntN.{pos}
