@@ -26,7 +26,7 @@ use Rattle.families.specs.Plan as Plan
 use Rattle.families.specs.Plan.{Chosen, empty, run}
 use Rattle.families.specs.Plans.{plans, planOf}
 use Rattle.families.specs.Answers.{answersOf}
-use Rattle.choice.specs.Choice.{isCase, numberOf, choiceOf}
+use Rattle.choice.specs.Choice.{isCase, natOf, choiceOf}
 use Rattle.choice.specs.declared.Family.{Family}
 use Rattle.choice.specs.declared.Family.the-variants.{Nothing, Known, Refused}
 use Rattle.choice.specs.Kin.{Kin, nothing, known, refused, kinOf, kin}
@@ -83,8 +83,8 @@ its-or-refused false b m f = tt
 
 its-own : (x y : ℤ) → T (its (kinOf x y))
 unfolding kinOf
-its-own x (pos c) = its-or-refused (isCase x) (ltb c (getD configurations (numberOf x) 0)) (known (numberOf x) c) (λ h. h)
-its-own x (negsuc c) = its-or-refused (isCase x) (eqb (numberOf x) 0 && eqb c 0) nothing (λ h. tt)
+its-own x (pos c) = its-or-refused (isCase x) (ltb c (getD configurations (natOf x) 0)) (known (natOf x) c) (λ h. h)
+its-own x (negsuc c) = its-or-refused (isCase x) (eqb (natOf x) 0 && eqb c 0) nothing (λ h. tt)
 
 -- ---- what is chosen for a family
 abbrev ifFinite : Bool → Chosen → Chosen
@@ -107,10 +107,10 @@ no-plan k h = rw (eqb→eq k 0 h)
 
 choice-by : (x y : ℤ) (q : Cube) → choiceOf x y q ≡ choiceBy q (kinOf x y)
 unfolding choiceOf kinOf run
-choice-by x (pos c) q = chosen-or-refused q (isCase x) (ltb c (getD configurations (numberOf x) 0)) (known (numberOf x) c) _ (λ h. refl)
+choice-by x (pos c) q = chosen-or-refused q (isCase x) (ltb c (getD configurations (natOf x) 0)) (known (natOf x) c) _ (λ h. refl)
 choice-by x (negsuc c) q =
-    chosen-or-refused q (isCase x) (eqb (numberOf x) 0 && eqb c 0) nothing _
-    (λ h. rw (no-plan (numberOf x) (and-l (eqb (numberOf x) 0) (eqb c 0) h)))
+    chosen-or-refused q (isCase x) (eqb (natOf x) 0 && eqb c 0) nothing _
+    (λ h. rw (no-plan (natOf x) (and-l (eqb (natOf x) 0) (eqb c 0) h)))
 
 module _ (x y : ℤ) (f : Family) (fx : SFits w8 x) (fy : SFits w8 y) (e : kin f ≡ kinOf (toZ w8 (ofZ w8 x)) (toZ w8 (ofZ w8 y))) where
   of : (v : Family) → f ≡ v → kinOf x y ≡ kin v

@@ -22,7 +22,7 @@ use Rattle.families.specs.Tilings.{configurations, tilingsOf, columnsOf, isOneO
 use Rattle.families.specs.Plan.{Plan, nothing, untiled, tile, ask, face, inside, inside13, askInTurn, Answers, Chosen, empty, noTiling, tiling, refused, settled, run}
 use Rattle.families.specs.Plans.{plan3, plan4, plan6, part7, plan7, twoFaces, plan10, plan12, parts13, lastFrom, tile13, part13, plan13, plans, planOf}
 use Rattle.families.specs.Answers.{answersOf}
-use Rattle.choice.specs.Choice.{numberOf, choiceOf}
+use Rattle.choice.specs.Choice.{natOf, choiceOf}
 use Rattle.choice.specs.Ranges.{readings, inRanges}
 use Rattle.choice.proofs.Refusals.{nineAlone, inside-nine}
 
@@ -109,7 +109,7 @@ chosen-in case c q true true f =
 chosen-in case c q true false f = tt
 chosen-in case c q false b f = tt
 
-pub ranges : (case configuration : ℤ) (q : Cube) → T (inRanges (numberOf case) (choiceOf case configuration q))
+pub ranges : (case configuration : ℤ) (q : Cube) → T (inRanges (natOf case) (choiceOf case configuration q))
 unfolding choiceOf inRanges
 ranges (negsuc k) y q = tt
 ranges (pos k) (pos c) q =

@@ -23,15 +23,15 @@ isConfiguration case (pos c) = ltb c (getD configurations case 0)
 isConfiguration case (negsuc c) = eqb case 0 && eqb c 0
 
 -- the number of a case or a configuration, 0 below 0
-abbrev pub numberOf : ℤ → ℕ
-numberOf (pos k) = k
-numberOf (negsuc k) = 0
+abbrev pub natOf : ℤ → ℕ
+natOf (pos k) = k
+natOf (negsuc k) = 0
 
 -- refusals 1, 2 and 3 in this order, and 9 where an interior test gives it
 unfoldable pub choiceOf : ℤ → ℤ → Cube → Chosen
 choiceOf case configuration q =
     cond (isCase case)
-    (cond (isConfiguration (numberOf case) configuration)
-    (cond (allFinite q) (run (answersOf q) (planOf (numberOf case) (numberOf configuration)) noNotes) (refused 3))
+    (cond (isConfiguration (natOf case) configuration)
+    (cond (allFinite q) (run (answersOf q) (planOf (natOf case) (natOf configuration)) noNotes) (refused 3))
     (refused 2))
     (refused 1)

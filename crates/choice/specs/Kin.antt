@@ -5,7 +5,7 @@ use lib.IntN.{ℤ, pos, negsuc}
 use Rattle.cube.specs.Refusals.{refusalNumber}
 use Rattle.choice.specs.declared.Family.{Family}
 use Rattle.choice.specs.declared.Family.the-variants.{Nothing, Known, Refused}
-use Rattle.choice.specs.Choice.{isCase, isConfiguration, numberOf}
+use Rattle.choice.specs.Choice.{isCase, isConfiguration, natOf}
 
 pub data Kin : Type 0 where
   nothing : Kin
@@ -18,7 +18,7 @@ member case (pos c) = known case c
 member case (negsuc c) = nothing
 
 unfoldable pub kinOf : ℤ → ℤ → Kin
-kinOf case configuration = cond (isCase case) (cond (isConfiguration (numberOf case) configuration) (member (numberOf case) configuration) (refused 2)) (refused 1)
+kinOf case configuration = cond (isCase case) (cond (isConfiguration (natOf case) configuration) (member (natOf case) configuration) (refused 2)) (refused 1)
 
 abbrev pub kin : Family → Kin
 kin Nothing = nothing

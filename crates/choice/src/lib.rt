@@ -4,7 +4,7 @@ ghost use Prim.Native.Nat.{_<_};
 ghost use lib.Dec.{T};
 ghost use lib.IntN.{pos};
 ghost use Rattle.families.specs.Answers.{chosen};
-ghost use Rattle.choice.specs.Choice.{numberOf, choiceOf};
+ghost use Rattle.choice.specs.Choice.{natOf, choiceOf};
 ghost use Rattle.choice.specs.Kin.{kin, kinOf};
 ghost use Rattle.choice.specs.Ranges.{inRanges};
 ghost use Rattle.choice.specs.Starred.{StarredCubes};
@@ -62,7 +62,7 @@ fn family_of(case: i8, configuration: i8) -> Family
 // The choice: refusal 1, 2, 3 or 9 in this order, or what document 01 chooses.
 pub fn handle_cube(case: i8, configuration: i8, q: Cube) -> Choice
     ensures choice { λ r. ⌜ chosen r ≡ choiceOf case configuration q ⌝ }
-    ensures ranges { λ r. ⌜ T (inRanges (numberOf case) (chosen r)) ⌝ }
+    ensures ranges { λ r. ⌜ T (inRanges (natOf case) (chosen r)) ⌝ }
     ensures starred { λ r. ⌜ StarredCubes ⌝ }
 {
     match family_of(case, configuration) {

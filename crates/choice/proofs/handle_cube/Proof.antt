@@ -5,7 +5,7 @@ use lib.Dec.{T}
 use lib.IntN.{ℤ}
 use Rattle.cube.specs.declared.Cube.{Cube}
 use Rattle.families.specs.Plan.{Chosen}
-use Rattle.choice.specs.Choice.{numberOf, choiceOf}
+use Rattle.choice.specs.Choice.{natOf, choiceOf}
 use Rattle.choice.specs.Ranges.{inRanges}
 use Rattle.choice.specs.Starred.{StarredCubes}
 use Rattle.choice.proofs.Families.{one-of-its, by-nothing, by-nothing-refused, by-plan, by-plan-refused, by-refusal}
@@ -14,8 +14,8 @@ use Rattle.choice.proofs.Starred.{starred}
 use Rattle.choice.proofs.handle_cube.Statement.{statement}
 use Rattle.choice.proofs.handle_cube.Tie as tie
 
-promised : (x y : ℤ) (q : Cube) (r : Chosen) → r ≡ choiceOf x y q → (r ≡ choiceOf x y q) × (T (inRanges (numberOf x) r) × StarredCubes)
-promised x y q r e = (e, (subst (λ (s : Chosen). T (inRanges (numberOf x) s)) (sym e) (ranges x y q), starred))
+promised : (x y : ℤ) (q : Cube) (r : Chosen) → r ≡ choiceOf x y q → (r ≡ choiceOf x y q) × (T (inRanges (natOf x) r) × StarredCubes)
+promised x y q r e = (e, (subst (λ (s : Chosen). T (inRanges (natOf x) s)) (sym e) (ranges x y q), starred))
 
 family-of-requires : tie.Need-family-of-requires
 family-of-requires c κs = search needs
