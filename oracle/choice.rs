@@ -1,10 +1,11 @@
 // The proved choice against the Rust's handle_cube, in one process.
 //
 //   compare N SEED   compares the two on about N cubes, and counts what the cubes met; readings of
-//                    edges, face tests, roots and refusals as well
+//                    edges, face tests, roots, refusals and lists as well
 //   speed            measures the two on the same cubes
-//   sample SEED      prints a few cubes with the Rust's answers, in hex digits:
-//                    case, configuration, eight corners, code, row, column, centre, unsettled
+//   sample SEED      prints an input of the text program whose cubes meet everything
+//   input BYTES SEED prints about so many bytes of input for the text program, of mixed families
+//   text             the text program in plain Rust, over the Rust's handle_cube
 #[path = "choice/compare.rs"]
 mod compare;
 #[path = "choice/cubes.rs"]
@@ -13,6 +14,8 @@ mod cubes;
 mod families;
 #[path = "choice/library.rs"]
 mod library;
+#[path = "choice/list.rs"]
+mod list;
 #[path = "choice/met.rs"]
 mod met;
 #[path = "choice/rust.rs"]
@@ -21,6 +24,8 @@ mod rust;
 mod sample;
 #[path = "choice/speed.rs"]
 mod speed;
+#[path = "choice/text.rs"]
+mod text;
 
 fn main() {
     let words: Vec<String> = std::env::args().skip(1).collect();
@@ -29,8 +34,10 @@ fn main() {
         (Some("compare"), Some(cubes), Some(seed)) => compare::compare(cubes, seed),
         (Some("speed"), None, None) => speed::speed(),
         (Some("sample"), Some(seed), None) => sample::sample(seed),
+        (Some("input"), Some(bytes), Some(seed)) => text::input(bytes, seed),
+        (Some("text"), None, None) => text::text(),
         _ => {
-            eprintln!("compare N SEED | speed | sample SEED");
+            eprintln!("compare N SEED | speed | sample SEED | input BYTES SEED | text");
             false
         }
     };

@@ -4,9 +4,9 @@
     extract.py SOURCE OUT.rs           writes OUT.rs, then checks it
     extract.py --check SOURCE OUT.rs   checks it alone
 
-SOURCE has src/voxel/meshing/. OUT.rs is a part of choice/rust.rs. It holds each function twice: as it
-stands, for Bare, and for Noted with lines put in between that note what is met on the way; such a line
-ends in MARK. One expression is replaced, LOOKUP in handle_cube by GIVEN. The tilings, add_faces and
+SOURCE has src/voxel/meshing/. OUT.rs is a part of choice/rust.rs. It holds each function three times: as
+it stands, for Bare, and for Noted and Counted with lines put in between that note what is met on the way;
+such a line ends in MARK. One expression is replaced, LOOKUP in handle_cube by GIVEN. The tilings, add_faces and
 compute_c_vertex are items of choice/rust.rs under the same names, so their calls stand as they are. The
 source's own CASES stands in a module by itself; suited signs are drawn from it.
 
@@ -45,6 +45,9 @@ impl Bare {{
 {bare}}}
 
 impl Noted {{
+{noted}}}
+
+impl Counted {{
 {noted}}}
 
 {tables}
@@ -143,10 +146,10 @@ def check(source, out):
     text = Path(out).read_bytes().decode()
     lines = text.splitlines(keepends=True)
     bare = "".join(line for line in lines if not line.endswith(MARK))
-    if bare.count(GIVEN) != 2 or bare.replace(GIVEN, LOOKUP) != framed(functions, tables, cases):
+    if bare.count(GIVEN) != 3 or bare.replace(GIVEN, LOOKUP) != framed(functions, tables, cases):
         fail("the extract is not verbatim")
     notes = [line[:-len(MARK)] for line in lines if line.endswith(MARK)]
-    wanted = [note for parts in NOTES.values() for _, note, times in parts for _ in range(times)]
+    wanted = [note for parts in NOTES.values() for _, note, times in parts for _ in range(2 * times)]
     if sorted(notes) != sorted(wanted):
         fail("the notes are not those of the list")
     if text.replace(GIVEN, LOOKUP) != framed(functions, tables, cases, noted):
@@ -159,7 +162,7 @@ def report(source, functions, tables, notes):
         print(f"{name} {hashlib.sha256(text.encode()).hexdigest()}", file=sys.stderr)
     size = sum(len(text) for text in functions.values())
     print(f"the extract is verbatim but for the lookup: {len(functions)} functions of {size} bytes, "
-          f"{len(tables)} tables and CASES; {len(notes)} notes in the noted copy", file=sys.stderr)
+          f"{len(tables)} tables and CASES; {len(notes) // 2} notes in each noted copy", file=sys.stderr)
 
 
 def main(words):

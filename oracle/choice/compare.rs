@@ -2,6 +2,7 @@
 use crate::cubes::{Random, Regime, REGIMES};
 use crate::families::{CONFIGURATIONS, FAMILIES, GIVEN, SUITED};
 use crate::library::{choose, edge, face, root, Mc33Choice, Mc33Cube, Mc33Face};
+use crate::list::compare_lists;
 use crate::met::{face_answer, faces, met, print_met, read_alone, wanted, wanted_by_itself, FAMILY, THINGS};
 use crate::rust::{Both, Cube};
 use std::sync::atomic::{AtomicU64, Ordering};
@@ -13,7 +14,7 @@ pub fn hex(corners: &[f32; 8]) -> String {
 }
 
 // Counts a difference; the first five are printed.
-fn differ(what: String, ours: String, theirs: String) {
+pub fn differ(what: String, ours: String, theirs: String) {
     if DIFFERENCES.fetch_add(1, Ordering::Relaxed) < 5 {
         println!("DIFFERS: {what}: ours {ours}; theirs {theirs}");
     }
@@ -95,7 +96,7 @@ fn compare_regime(regime: &Regime, cubes: u64, seed: u64, comparer: &mut Compare
     }
 }
 
-fn differences() -> u64 {
+pub fn differences() -> u64 {
     DIFFERENCES.load(Ordering::Relaxed)
 }
 
@@ -137,7 +138,7 @@ fn are_finite(corners: &[f32; 8]) -> bool {
     corners.iter().all(|corner| corner.to_bits() & 0x7f80_0000 != 0x7f80_0000)
 }
 
-fn refusal(cube: &Cube) -> u8 {
+pub fn refusal(cube: &Cube) -> u8 {
     let [case, configuration] = cube.given;
     let known = |case| match case {
         0 => configuration == -1,
@@ -224,6 +225,7 @@ fn compare_roots(patterns: u64, seed: u64) {
 pub fn compare(cubes: u64, seed: u64) -> bool {
     let counts = compare_cubes(cubes, seed);
     let each_refusal = compare_refusals();
+    let each_outcome = compare_lists(seed);
     compare_roots(4_000_000, seed);
     print_met(&counts);
     let all = wanted().into_iter().chain(wanted_by_itself());
@@ -231,5 +233,5 @@ pub fn compare(cubes: u64, seed: u64) -> bool {
     let cubes: u64 = counts[FAMILY..FAMILY + FAMILIES].iter().sum();
     let hit = if unhit.is_empty() { "nothing unhit".into() } else { format!("unhit: {}", unhit.join("; ")) };
     println!("\n{cubes} cubes, {} differ, {hit}", differences());
-    differences() == 0 && unhit.is_empty() && each_refusal
+    differences() == 0 && unhit.is_empty() && each_refusal && each_outcome
 }

@@ -38,11 +38,26 @@ struct Mc33Edge {
     product: f32,
 }
 
+#[derive(Clone, Copy, PartialEq, Debug)]
+#[repr(C)]
+pub struct Mc33Outcome {
+    pub refusal: u64,
+    pub place: u64,
+}
+
 extern "C" {
     fn mc33_choose(case: i8, configuration: i8, cube: Mc33Cube) -> Mc33Choice;
     fn mc33_face(cube: Mc33Cube, face: i8) -> Mc33Face;
     fn mc33_edge(cube: Mc33Cube, edge: i8) -> Mc33Edge;
     fn mc33_root_bits(bits: u32) -> u32;
+    fn mc33_list(
+        corners: *const f32,
+        corners_len: usize,
+        numbers: *const i8,
+        numbers_len: usize,
+        answers: *mut u8,
+        answers_len: usize,
+    ) -> Mc33Outcome;
 }
 
 // The functions take any numbers and touch no memory.
@@ -63,4 +78,10 @@ pub fn edge(corners: &[f32; 8], edge: i8) -> [u32; 4] {
 
 pub fn root(bits: u32) -> u32 {
     unsafe { mc33_root_bits(bits) }
+}
+
+// The list's routine keeps to the three slices.
+pub fn list(corners: &[f32], numbers: &[i8], answers: &mut [u8]) -> Mc33Outcome {
+    let (answers, room) = (answers.as_mut_ptr(), answers.len());
+    unsafe { mc33_list(corners.as_ptr(), corners.len(), numbers.as_ptr(), numbers.len(), answers, room) }
 }

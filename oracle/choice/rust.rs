@@ -141,10 +141,85 @@ impl Bare {
     }
 }
 
+// A loop over cubes that writes code, row, column and centre of each.
+#[inline(never)]
+pub fn handle_list(rust: &mut Bare, cubes: &[Cube], answers: &mut [[u8; 4]]) {
+    for (cube, answer) in cubes.iter().zip(answers) {
+        rust.note = Note::default();
+        rust.centre = false;
+        rust.handle_cube(Some(*cube));
+        let Note { code, row, column } = rust.note;
+        *answer = [code, row, column, rust.centre as u8];
+    }
+}
+
 // One call for a cube, as of the library.
 #[inline(never)]
 pub fn handle(rust: &mut Bare, cube: &Cube) {
     rust.handle_cube(Some(*cube));
+}
+
+// The Rust with unsettled counted and the sub-configuration noted, and nothing else.
+pub struct Counted {
+    cube: Cube,
+    case: i8,
+    config: usize,
+    note: Note,
+    centre: bool,
+    sub_configuration: usize,
+    unsettled: Cell<u8>,
+}
+
+impl Counted {
+    pub fn new() -> Self {
+        Counted {
+            cube: BLANK_CUBE,
+            case: 0,
+            config: 0,
+            note: Note::default(),
+            centre: false,
+            sub_configuration: 0,
+            unsettled: Cell::new(0),
+        }
+    }
+
+    fn add_faces(&mut self, note: &Note) {
+        self.note = *note;
+    }
+
+    fn compute_c_vertex(&mut self) {
+        self.centre = true;
+    }
+
+    fn note_sub_configuration(&mut self, number: usize) {
+        self.sub_configuration = number;
+    }
+
+    fn note_product(&self, product: f32) {
+        self.unsettled.set(self.unsettled.get() + (product == 0.0) as u8);
+    }
+
+    fn note_edge(&self, _: i8) {}
+
+    fn note_t(&self, _: f32) {}
+
+    fn note_times(&self, _: f32, _: f32, _: f32) {}
+
+    fn note_places(&self, _: [f32; 4]) {}
+
+    // Code, row, column, centre and unsettled.
+    pub fn choice(&mut self, cube: Cube) -> [u8; 5] {
+        self.note = Note::default();
+        self.centre = false;
+        self.unsettled.set(0);
+        self.handle_cube(Some(cube));
+        let Note { code, row, column } = self.note;
+        match code {
+            0 if self.case == 0 => [0; 5],
+            0 => [255, self.config as u8, self.sub_configuration as u8, 0, 0],
+            _ => [code, row, column, self.centre as u8, self.unsettled.get()],
+        }
+    }
 }
 
 // Kinds of a reading and ways through the case-13 test.

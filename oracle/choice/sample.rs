@@ -1,23 +1,17 @@
-// A sample of the Rust's answers.
-use crate::compare::hex;
+// A sample of cubes, as the text program's input.
 use crate::cubes::{Random, REGIMES};
 use crate::families::{family_of, GIVEN, SUITED};
-use crate::library::Mc33Choice;
 use crate::met::{met, wanted, THINGS};
 use crate::rust::{Both, Cube, Noted};
+use crate::text::{input_line, INPUT_NAMES};
 
 struct Line {
-    text: String,
+    cube: Cube,
     things: Vec<usize>,
 }
 
-fn line(rust: &Noted, things: Vec<usize>) -> Line {
-    let [case, configuration] = rust.cube.given;
-    let Mc33Choice { code, row, column, centre, unsettled, .. } = rust.choice();
-    let text = format!("{:02x} {:02x} {} {code:02x} {row:02x} {column:02x} {centre:02x} {unsettled:02x}",
-        case as u8, configuration as u8, hex(&rust.cube.corners));
-    Line { text, things }
-}
+// So many lines in all.
+const LINES: usize = 5200;
 
 // Beside what choices have to meet: each code and column of each family, and each case of each regime.
 const OF_FAMILY: usize = THINGS;
@@ -34,33 +28,41 @@ fn sampled(rust: &Noted, regime: usize) -> Vec<usize> {
     things
 }
 
+fn cube(random: &mut Random, regime: usize) -> Cube {
+    let family = random.family();
+    Cube { given: GIVEN[family], corners: REGIMES[regime].1(random, SUITED[family]) }
+}
+
 // The cubes that meet something first, of the regimes in turn.
-fn first_meetings(cubes: usize, seed: u64, counts: &mut [u32]) -> Vec<Line> {
-    let (mut random, mut rust, mut lines) = (Random(seed), Both::new(), Vec::new());
+fn first_meetings(cubes: usize, random: &mut Random, counts: &mut [u32]) -> Vec<Line> {
+    let (mut rust, mut lines) = (Both::new(), Vec::new());
     for place in 0..cubes {
         let regime = place % REGIMES.len();
-        let family = random.family();
-        let corners = REGIMES[regime].1(&mut random, SUITED[family]);
-        rust.choice(&Cube { given: GIVEN[family], corners });
+        let cube = cube(random, regime);
+        rust.choice(&cube);
         let things = sampled(&rust.noted, regime);
         if things.iter().any(|&thing| counts[thing] == 0) {
             things.iter().for_each(|&thing| counts[thing] += 1);
-            lines.push(line(&rust.noted, things));
+            lines.push(Line { cube, things });
         }
     }
     lines
 }
 
-// Prints the first meetings, without those that meet nothing that the others do not.
+// Prints the first meetings, without those that meet nothing that the others do not, then more cubes.
 pub fn sample(seed: u64) -> bool {
-    let mut counts = vec![0; SAMPLED];
-    let lines = first_meetings(6_000_000, seed, &mut counts);
-    for line in lines {
+    let (mut random, mut counts, mut printed) = (Random(seed), vec![0; SAMPLED], 0);
+    print!("{}", String::from_utf8_lossy(INPUT_NAMES));
+    for line in first_meetings(6_000_000, &mut random, &mut counts) {
         line.things.iter().for_each(|&thing| counts[thing] -= 1);
         if line.things.iter().any(|&thing| counts[thing] == 0) {
             line.things.iter().for_each(|&thing| counts[thing] += 1);
-            println!("{}", line.text);
+            print!("{}", input_line(&line.cube));
+            printed += 1;
         }
+    }
+    for place in printed..LINES {
+        print!("{}", input_line(&cube(&mut random, place % REGIMES.len())));
     }
     let unmet = wanted().into_iter().filter(|(thing, _)| counts[*thing] == 0);
     unmet.map(|(_, name)| eprintln!("not in the sample: {name}")).count() == 0

@@ -1,8 +1,8 @@
 // The speed of both on the same cubes.
 use crate::cubes::{free, suited, Random};
 use crate::families::{AMBIGUOUS, CONFIGURATIONS, GIVEN, STARTS, SUITED};
-use crate::library::{choose, Mc33Cube};
-use crate::rust::{handle, Bare, Cube};
+use crate::library::{choose, list, Mc33Cube};
+use crate::rust::{handle, handle_list, Bare, Cube};
 use std::hint::black_box;
 use std::time::Instant;
 
@@ -68,35 +68,73 @@ fn time_theirs(cubes: &[Cube], rust: &mut Bare) -> f64 {
     start.elapsed().as_nanos() as f64 / cubes.len() as f64
 }
 
+// The same cubes as lists.
+struct Lists {
+    corners: Vec<[f32; 8]>,
+    numbers: Vec<[i8; 2]>,
+    answers: Vec<[u8; 4]>,
+}
+
+fn lists(cubes: &[Cube]) -> Lists {
+    let corners = cubes.iter().map(|cube| cube.corners).collect();
+    let numbers = cubes.iter().map(|cube| cube.given).collect();
+    Lists { corners, numbers, answers: vec![[0; 4]; cubes.len()] }
+}
+
+fn time_our_list(lists: &mut Lists) -> f64 {
+    let start = Instant::now();
+    let outcome = list(lists.corners.as_flattened(), lists.numbers.as_flattened(), lists.answers.as_flattened_mut());
+    assert_eq!(outcome.refusal, 0);
+    black_box(&lists.answers);
+    start.elapsed().as_nanos() as f64 / lists.corners.len() as f64
+}
+
+fn time_their_list(cubes: &[Cube], answers: &mut [[u8; 4]], rust: &mut Bare) -> f64 {
+    let start = Instant::now();
+    handle_list(rust, cubes, answers);
+    black_box(&answers);
+    start.elapsed().as_nanos() as f64 / cubes.len() as f64
+}
+
 fn median(mut times: Vec<f64>) -> f64 {
     times.sort_by(f64::total_cmp);
     times[times.len() / 2]
 }
 
 // Medians of ours, of theirs, and of their quotient round by round.
-fn race(course: &Course, rust: &mut Bare) -> [f64; 3] {
-    let (mut ours, mut theirs) = (Vec::new(), Vec::new());
+fn race(mut ours: impl FnMut() -> f64, mut theirs: impl FnMut() -> f64) -> [f64; 3] {
+    let (mut our_times, mut their_times) = (Vec::new(), Vec::new());
     for round in 0..101 {
         if round % 2 == 0 {
-            ours.push(time_ours(&course.cubes));
+            our_times.push(ours());
         }
-        theirs.push(time_theirs(&course.cubes, rust));
+        their_times.push(theirs());
         if round % 2 == 1 {
-            ours.push(time_ours(&course.cubes));
+            our_times.push(ours());
         }
     }
-    let quotients = ours.iter().zip(&theirs).map(|(a, b)| a / b).collect();
-    [median(ours), median(theirs), median(quotients)]
+    let quotients = our_times.iter().zip(&their_times).map(|(a, b)| a / b).collect();
+    [median(our_times), median(their_times), median(quotients)]
+}
+
+fn print_race(name: &str, [ours, theirs, quotient]: [f64; 3]) -> bool {
+    let times = ours / theirs;
+    println!("{name:<30}{ours:>9.2}{theirs:>12.2}{times:>8.2}{quotient:>16.2}");
+    times <= 1.0
 }
 
 pub fn speed() -> bool {
     let (mut rust, mut fast) = (Bare::new(), true);
-    println!("{:<24}{:>9}{:>12}{:>8}{:>16}", "ns a cube", "ours", "the Rust's", "times", "round by round");
+    println!("{:<30}{:>9}{:>12}{:>8}{:>16}", "ns a cube", "ours", "the Rust's", "times", "round by round");
     for course in courses() {
-        let [ours, theirs, quotient] = race(&course, &mut rust);
-        let times = ours / theirs;
-        println!("{:<24}{ours:>9.2}{theirs:>12.2}{times:>8.2}{quotient:>16.2}", course.name);
-        fast &= !course.bounded || times <= 1.0;
+        let raced = race(|| time_ours(&course.cubes), || time_theirs(&course.cubes, &mut rust));
+        fast &= print_race(&course.name, raced) | !course.bounded;
+        let (mut lists, mut answers) = (lists(&course.cubes), vec![[0; 4]; course.cubes.len()]);
+        let raced = race(
+            || time_our_list(&mut lists),
+            || time_their_list(&course.cubes, &mut answers, &mut rust),
+        );
+        fast &= print_race(&format!("list, {}", course.name), raced) | !course.bounded;
     }
     fast
 }

@@ -200,6 +200,7 @@ pasts =
     ∷ past 1 (refused 0)
     ∷ past 1 (refused 4)
     ∷ past 1 (refused 8)
+    ∷ past 1 (refused 9)
     ∷ past 1 (refused 10)
     ∷ []
 

@@ -1,13 +1,12 @@
 -- The family of a case and a configuration, by the two taken apart, and by it what is chosen. `toZ w8 (ofZ w8 z)` is how code reads z. Assumes nothing.
 use mathlib.Core.Path.{_≡_, refl, sym, ap, _∙_, subst}
 use mathlib.Core.Bool.{Bool, true, false, cond, _&&_}
-use mathlib.Core.List.{[], _∷_}
-use Prim.Native.Nat.{ℕ, _≤_, _<_}
+use Prim.Native.Nat.{ℕ, zero, suc, _≤_, _<_}
 use native.Mathlib.Omega.{arith}
 use borrow.Author.Tests.{le-leb, lt-leb, lt-ltb, le-ltb}
 use lib.IntN.{ℤ, pos, negsuc}
 use lib.Dec.{T, leb, ltb, eqb, eqb→eq, ltb→lt}
-use lib.ListN.{getD}
+use lib.ListN.{getD, List·getD-eq-default}
 use lib.Ieee.Fits.{and-l}
 use mir.Syntax.{w8}
 use mir.Val.{SFits, toZ, ofZ}
@@ -26,14 +25,18 @@ use Rattle.families.specs.Plan as Plan
 use Rattle.families.specs.Plan.{Chosen, empty, run}
 use Rattle.families.specs.Plans.{plans, planOf}
 use Rattle.families.specs.Answers.{answersOf}
-use Rattle.choice.specs.Choice.{isCase, natOf, choiceOf}
+use Rattle.families.proofs.Families.{NoneUnder, past-all}
+use Rattle.choice.specs.Choice.{isCase, natOf, choiceOf, refusalOf}
 use Rattle.choice.specs.declared.Family.{Family}
 use Rattle.choice.specs.declared.Family.the-variants.{Nothing, Known, Refused}
 use Rattle.choice.specs.Kin.{Kin, nothing, known, refused, kinOf, kin}
+use Rattle.choice.proofs.Ranges.{never-refused}
 
--- the code's table
-abbrev limit : ℕ → ℕ
-limit case = getD (0 ∷ 16 ∷ 24 ∷ 24 ∷ 8 ∷ 48 ∷ 48 ∷ 16 ∷ 6 ∷ 8 ∷ 6 ∷ 12 ∷ 24 ∷ 2 ∷ 12 ∷ []) case 0
+-- past case 14 there are no configurations, nor from 0 for case 0
+pub no-more : (k : ℕ) → NoneUnder 14 k → 0 ≡ getD configurations k 0
+unfolding configurations
+no-more zero h = refl
+no-more (suc k) h = sym (List·getD-eq-default configurations 0 (past-all 14 (suc k) (omega arith) h))
 
 module _ (z : ℤ) (r : Split) (f : SFits w8 z) (e : splitValue r ≡ toZ w8 (ofZ w8 z)) where
   -- ---- z is the configuration
@@ -41,13 +44,14 @@ module _ (z : ℤ) (r : Split) (f : SFits w8 z) (e : splitValue r ≡ toZ w8 (of
     case-known : leb case 14 ≡ true
     case-known = le-leb case 14 (omega arith)
 
-    pub one-of : r ≡ NotBelow c → c < limit case → known case c ≡ kinOf (pos case) z
-    unfolding kinOf configurations
-    one-of s l = rw (taken z r f e (NotBelow c) s, case-known, lt-ltb c (limit case) l)
+    -- n is how many the code has found the case to have
+    pub one-of : (n : ℕ) → n ≡ getD configurations case 0 → r ≡ NotBelow c → c < n → known case c ≡ kinOf (pos case) z
+    unfolding kinOf
+    one-of n i s l = rw (taken z r f e (NotBelow c) s, case-known, ← i, lt-ltb c n l)
 
-    pub past : r ≡ NotBelow c → limit case ≤ c → refused 2 ≡ kinOf (pos case) z
-    unfolding kinOf configurations
-    past s l = rw (taken z r f e (NotBelow c) s, case-known, le-ltb c (limit case) l)
+    pub past : (n : ℕ) → n ≡ getD configurations case 0 → r ≡ NotBelow c → n ≤ c → refused 2 ≡ kinOf (pos case) z
+    unfolding kinOf
+    past n i s l = rw (taken z r f e (NotBelow c) s, case-known, ← i, le-ltb c n l)
 
     pub of-0 : r ≡ Below c → eqb case 0 && eqb c 0 ≡ true → nothing ≡ kinOf (pos case) z
     unfolding kinOf
@@ -90,6 +94,15 @@ its-own x (negsuc c) = its-or-refused (isCase x) (eqb (natOf x) 0 && eqb c 0) no
 abbrev ifFinite : Bool → Chosen → Chosen
 ifFinite b r = cond b r (Plan.refused 3)
 
+-- the number of its refusal, where that is by the corners alone
+abbrev ifNot : Bool → ℕ
+ifNot b = cond b 0 3
+
+corners-alone : (b : Bool) (s : Chosen) → refusalOf s ≡ 0 → refusalOf (ifFinite b s) ≡ ifNot b
+unfolding refusalOf
+corners-alone true s h = h
+corners-alone false s h = refl
+
 abbrev choiceBy : Cube → Kin → Chosen
 choiceBy q nothing = ifFinite (allFinite q) empty
 choiceBy q (known k c) = ifFinite (allFinite q) (run (answersOf q) (planOf k c) noNotes)
@@ -101,7 +114,7 @@ chosen-or-refused q true true m r f = f tt
 chosen-or-refused q true false m r f = refl
 chosen-or-refused q false b m r f = refl
 
-no-plan : (k : ℕ) → T (eqb k 0) → planOf k 0 ≡ Plan.nothing
+pub no-plan : (k : ℕ) → T (eqb k 0) → planOf k 0 ≡ Plan.nothing
 unfolding planOf plans
 no-plan k h = rw (eqb→eq k 0 h)
 
@@ -143,3 +156,19 @@ module _ (x y : ℤ) (f : Family) (fx : SFits w8 x) (fy : SFits w8 y) (e : kin f
 
         pub by-plan-refused : b ≡ false → Plan.refused 3 ≡ choiceOf x y q
         by-plan-refused h = found false (run (answersOf q) (planOf k c) noNotes) h ∙ by-family (Known k c) s
+
+    -- ---- and by its number, if it is refused
+    pub number-told : (why : Refusal) → f ≡ Refused why → (n : ℕ) → n ≡ refusalNumber why → n ≡ refusalOf (choiceOf x y q)
+    unfolding refusalOf
+    number-told why s n i = i ∙ ap refusalOf (by-refusal why s)
+
+    module _ (b : Bool) (finite : b ≡ allFinite q) (n : ℕ) (i : n ≡ ifNot b) where
+      by-corners : (s : Chosen) → refusalOf s ≡ 0 → n ≡ refusalOf (ifFinite (allFinite q) s)
+      by-corners s h = i ∙ ap ifNot finite ∙ sym (corners-alone (allFinite q) s h)
+
+      pub nothing-told : f ≡ Nothing → n ≡ refusalOf (choiceOf x y q)
+      unfolding refusalOf
+      nothing-told s = by-corners empty refl ∙ ap refusalOf (by-family Nothing s)
+
+      pub known-told : (k c : ℕ) → f ≡ Known k c → n ≡ refusalOf (choiceOf x y q)
+      known-told k c s = by-corners (run (answersOf q) (planOf k c) noNotes) (never-refused k c q (one-of-its k c s)) ∙ ap refusalOf (by-family (Known k c) s)

@@ -1,5 +1,6 @@
 mod Controls
 mod Families
-mod Ranges
+pub mod Ranges
 mod Refusals
 mod Starred
+mod Tested

@@ -1,10 +1,11 @@
--- An interior test refuses with 9 alone. Assumes nothing.
+-- An interior test of faces 1 to 6 is not refused. Assumes nothing.
 use mathlib.Core.Bool.{Bool, true, false, cond, _&&_}
 use mathlib.Core.List.{List, [], _∷_}
 use Prim.Native.Nat.{ℕ}
-use lib.Dec.{T, leb, eqb}
+use lib.Dec.{T, leb}
 use lib.IntN.{ℤ, pos}
 use lib.ListN.{getD}
+use lib.Ieee.Fits.{and-l, and-r}
 use Rattle.binary32.specs.Numbers.{Numbers, f32}
 use Rattle.cube.specs.declared.Cube.{Cube}
 use Rattle.cube.specs.Corners.{cornerOf}
@@ -13,30 +14,40 @@ use Rattle.interior.specs.Pick as Pick
 use Rattle.interior.specs.Pick.{edge, diagonals, lastMatch, pickWith, pickBy, matchesBy}
 use Rattle.interior.specs.Interior.{Look, seen, refused, joined, seenAs, lookAt, insideBy, insideOf}
 
-abbrev pub nineAlone : Look → Bool
-nineAlone (seen b m) = true
-nineAlone (refused n) = eqb n 9
+abbrev isFace : ℕ → Bool
+isFace n = leb 1 n && leb n 6
 
-joined-nine : (x y : Look) → T (nineAlone x) → T (nineAlone y) → T (nineAlone (joined x y))
+abbrev pub allFaces : List ℕ → Bool
+allFaces [] = true
+allFaces (n ∷ faces) = isFace n && allFaces faces
+
+abbrev pub isSeen : Look → Bool
+isSeen (seen b m) = true
+isSeen (refused n) = false
+
+joined-seen : (x y : Look) → T (isSeen x) → T (isSeen y) → T (isSeen (joined x y))
 unfolding joined
-joined-nine (refused n) y h l = h
-joined-nine (seen a m) (refused n) h l = l
-joined-nine (seen a m) (seen b n) h l = tt
+joined-seen (refused n) y h l = h
+joined-seen (seen a m) (refused n) h l = l
+joined-seen (seen a m) (seen b n) h l = tt
 
 module _ (K : Numbers) (D : Quotients K) (corner : ℕ → K .N) (s : ℤ) where
-  one-nine : (n : ℕ) → T (nineAlone (lookAt K D corner (pickBy K corner s n)))
+  one-seen : (n : ℕ) → T (isFace n) → T (isSeen (lookAt K D corner (pickBy K corner s n)))
   unfolding pickBy pickWith lookAt seenAs
-  one-nine n = go (leb 1 n && leb n 6)
+  one-seen n h = go (isFace n) h
     where
-      go : (b : Bool) → T (nineAlone (lookAt K D corner (cond b (edge (pos (lastMatch (matchesBy K corner s) 0 (getD diagonals n [])))) (Pick.refused 9))))
-      go true = tt
-      go false = tt
+      go : (b : Bool) → T b → T (isSeen (lookAt K D corner (cond b (edge (pos (lastMatch (matchesBy K corner s) 0 (getD diagonals n [])))) (Pick.refused 9))))
+      go true h = tt
+      go false h = h
 
-  all-nine : (faces : List ℕ) → T (nineAlone (insideBy K D corner faces s))
+  all-seen : (faces : List ℕ) → T (allFaces faces) → T (isSeen (insideBy K D corner faces s))
   unfolding insideBy
-  all-nine [] = tt
-  all-nine (n ∷ faces) = joined-nine (lookAt K D corner (pickBy K corner s n)) (insideBy K D corner faces s) (one-nine n) (all-nine faces)
+  all-seen [] h = tt
+  all-seen (n ∷ faces) h =
+      joined-seen (lookAt K D corner (pickBy K corner s n)) (insideBy K D corner faces s)
+      (one-seen n (and-l (isFace n) (allFaces faces) h))
+      (all-seen faces (and-r (isFace n) (allFaces faces) h))
 
-pub inside-nine : (q : Cube) (faces : List ℕ) (s : ℤ) → T (nineAlone (insideOf q faces s))
+pub inside-seen : (q : Cube) (faces : List ℕ) (s : ℤ) → T (allFaces faces) → T (isSeen (insideOf q faces s))
 unfolding insideOf
-inside-nine q faces s = all-nine f32 quotients (cornerOf q) s faces
+inside-seen q faces s h = all-seen f32 quotients (cornerOf q) s faces h

@@ -8,7 +8,7 @@ use Rattle.cube.specs.declared.Cube.{Cube}
 use Rattle.cube.specs.Corners.{allFinite}
 use Rattle.notes.specs.Notes.{noNotes}
 use Rattle.families.specs.Tilings.{configurations}
-use Rattle.families.specs.Plan.{Chosen, refused, run}
+use Rattle.families.specs.Plan.{Chosen, empty, noTiling, tiling, refused, run}
 use Rattle.families.specs.Plans.{planOf}
 use Rattle.families.specs.Answers.{answersOf}
 
@@ -35,3 +35,17 @@ choiceOf case configuration q =
     (cond (allFinite q) (run (answersOf q) (planOf (natOf case) (natOf configuration)) noNotes) (refused 3))
     (refused 2))
     (refused 1)
+
+-- the number of a choice's refusal, 0 where it is made
+unfoldable pub refusalOf : Chosen → ℕ
+refusalOf empty = 0
+refusalOf (noTiling c sub) = 0
+refusalOf (tiling code row column centre m) = 0
+refusalOf (refused n) = n
+
+-- how many readings a choice left unsettled, 0 where there is no tiling
+unfoldable pub unsettledIn : Chosen → ℕ
+unsettledIn empty = 0
+unsettledIn (noTiling c sub) = 0
+unsettledIn (tiling code row column centre m) = m .unsettled
+unsettledIn (refused n) = 0

@@ -12,7 +12,7 @@ unfoldable pub readings : List ℕ
 readings = 0 ∷ 0 ∷ 0 ∷ 0 ∷ 3 ∷ 0 ∷ 1 ∷ 3 ∷ 0 ∷ 0 ∷ 1 ∷ 0 ∷ 2 ∷ 0 ∷ 0 ∷ []
 
 -- a tiling of the case, a row and a column that its table has, its centre, and no more unsettled than edge readings;
--- or what else there is: empty for case 0, no tiling for case 13, and the refusals of a choice
+-- or what else there is: empty for case 0, no tiling for case 13, and the refusals of a choice, where 9 is never given
 unfoldable pub inRanges : ℕ → Chosen → Bool
 inRanges case empty = eqb case 0
 inRanges case (noTiling c sub) = eqb case 13 && ltb c 2 && ltb sub 64
@@ -22,4 +22,4 @@ inRanges case (tiling code row column centre m) =
     && ltb column (columnsOf code)
     && Bool·beq centre (hasCentre code)
     && leb (m .unsettled) (getD readings case 0)
-inRanges case (refused n) = isOneOf n (1 ∷ 2 ∷ 3 ∷ 9 ∷ [])
+inRanges case (refused n) = isOneOf n (1 ∷ 2 ∷ 3 ∷ [])

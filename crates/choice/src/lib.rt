@@ -1,10 +1,14 @@
-// The choice: document 01, 'A choice' and 'Choice'. Public: `handle_cube`.
+// The choice: document 01, 'A choice' and 'Choice'. Public: `handle_cube`, and its two halves, which
+// lists want apart: `refusal` and `choose_tested`.
 ghost use mathlib.Core.Path.{_≡_};
+ghost use mathlib.Core.Bool.{cond};
 ghost use Prim.Native.Nat.{_<_};
 ghost use lib.Dec.{T};
 ghost use lib.IntN.{pos};
+ghost use lib.ListN.{getD};
+ghost use Rattle.families.specs.Tilings.{configurations};
 ghost use Rattle.families.specs.Answers.{chosen};
-ghost use Rattle.choice.specs.Choice.{natOf, choiceOf};
+ghost use Rattle.choice.specs.Choice.{natOf, choiceOf, refusalOf};
 ghost use Rattle.choice.specs.Kin.{kin, kinOf};
 ghost use Rattle.choice.specs.Ranges.{inRanges};
 ghost use Rattle.choice.specs.Starred.{StarredCubes};
@@ -20,8 +24,28 @@ enum Family {
     Refused(Refusal),
 }
 
-// How many configurations each case has; case 0 has -1 alone.
-const CONFIGURATIONS: [u8; 15] = [0, 16, 24, 24, 8, 48, 48, 16, 6, 8, 6, 12, 24, 2, 12];
+// How many configurations from 0 a case has; case 0 has -1 alone.
+fn configurations_of(case: u8) -> u8
+    ensures { λ r. ⌜ r ≡ getD configurations case 0 ⌝ }
+{
+    match case {
+        1 => 16,
+        2 => 24,
+        3 => 24,
+        4 => 8,
+        5 => 48,
+        6 => 48,
+        7 => 16,
+        8 => 6,
+        9 => 8,
+        10 => 6,
+        11 => 12,
+        12 => 24,
+        13 => 2,
+        14 => 12,
+        _ => 0,
+    }
+}
 
 // The family of a case below 15, or refusal 2.
 fn configured(case: u8, configuration: i8) -> Family
@@ -30,7 +54,7 @@ fn configured(case: u8, configuration: i8) -> Family
 {
     match cube::take_apart(configuration) {
         Split::NotBelow(c) => {
-            if c < CONFIGURATIONS[case as usize] {
+            if c < configurations_of(case) {
                 return Family::Known(case, c);
             }
             Family::Refused(Refusal::NoConfiguration)
@@ -59,7 +83,7 @@ fn family_of(case: i8, configuration: i8) -> Family
     }
 }
 
-// The choice: refusal 1, 2, 3 or 9 in this order, or what document 01 chooses.
+// The choice: refusal 1, 2 or 3 in this order, or what document 01 chooses. Refusal 9 is never given.
 pub fn handle_cube(case: i8, configuration: i8, q: Cube) -> Choice
     ensures choice { λ r. ⌜ chosen r ≡ choiceOf case configuration q ⌝ }
     ensures ranges { λ r. ⌜ T (inRanges (natOf case) (chosen r)) ⌝ }
@@ -79,5 +103,41 @@ pub fn handle_cube(case: i8, configuration: i8, q: Cube) -> Choice
             Choice::Refused(Refusal::NotFinite)
         }
         Family::Refused(why) => Choice::Refused(why),
+    }
+}
+
+// Refusal 3 by its number, 0 where the corners are finite.
+fn corner_refusal(finite: bool) -> u8
+    ensures { λ r. ⌜ r ≡ cond finite 0 3 ⌝ }
+{
+    if finite { 0 } else { 3 }
+}
+
+// A choice's refusal by its number, 0 where it is made. No choice is made for it: past 1, 2 and 3
+// nothing is refused.
+pub fn refusal(case: i8, configuration: i8, q: Cube) -> u8
+    ensures { λ r. ⌜ r ≡ refusalOf (choiceOf case configuration q) ⌝ }
+{
+    let finite = cube::all_finite(q);
+    match family_of(case, configuration) {
+        Family::Nothing => corner_refusal(finite),
+        Family::Known(_, _) => corner_refusal(finite),
+        Family::Refused(why) => cube::number(why),
+    }
+}
+
+// The choice of a cube that `refusal` gives 0 for: the tests are not made again. An inner routine for
+// lists.
+pub fn choose_tested(case: i8, configuration: i8, q: Cube) -> Choice
+    requires { ⌜ refusalOf (choiceOf case configuration q) ≡ 0 ⌝ }
+    ensures { λ r. ⌜ chosen r ≡ choiceOf case configuration q ⌝ }
+{
+    match cube::take_apart(case) {
+        Split::NotBelow(k) => match cube::take_apart(configuration) {
+            Split::NotBelow(c) => families::choose(q, k, c),
+            // case 0's
+            Split::Below(_) => Choice::Empty,
+        },
+        Split::Below(_) => Choice::Empty,
     }
 }

@@ -19,9 +19,9 @@ module _ {case c : ℕ} where
   pub room : {k : ℕ} → case ≡ k → c < getD configurations case 0 → c < getD configurations k 0
   room e h = subst (λ (j : ℕ). c < getD configurations j 0) e h
 
-  above : c < getD configurations case 0 → case < 15
+  pub of-a-case : c < getD configurations case 0 → case < 15
   unfolding configurations
-  above h = go (leb 15 case) (leb→le 15 case) (nleb→lt 15 case)
+  of-a-case h = go (leb 15 case) (leb→le 15 case) (nleb→lt 15 case)
     where
       go : (b : Bool) → (T b → 15 ≤ case) → (T (not b) → case < 15) → case < 15
       go true l g = absurd (none (subst (λ (n : ℕ). c < n) (List·getD-eq-default configurations 0 (l tt)) h))
@@ -45,19 +45,19 @@ pub reached : {case : ℕ} (q : Cube) (c : ℕ) {k : ℕ} → case ≡ k → {x 
 reached q c e f = f ∙ ap (λ (j : ℕ). run (answersOf q) (planOf j c) noNotes) (sym e)
 
 -- k is none of the numbers below n, as a match tells it
-abbrev NoneUnder : ℕ → ℕ → Type 0
+abbrev pub NoneUnder : ℕ → ℕ → Type 0
 NoneUnder zero k = Unit {0}
 NoneUnder (suc n) k = NoneUnder n k × (k ≡ suc n → ⊥)
 
-past : (n k : ℕ) → 0 < k → NoneUnder n k → n < k
-past zero k i h = i
-past (suc n) k i h = let l = past n k i (h .0) in let d = h .1 in omega arith
+pub past-all : (n k : ℕ) → 0 < k → NoneUnder n k → n < k
+past-all zero k i h = i
+past-all (suc n) k i h = let l = past-all n k i (h .0) in let d = h .1 in omega arith
 
 -- past case 14 there is no tiling, nor for case 0
 pub no-first : (k : ℕ) → NoneUnder 14 k → 0 ≡ firstTiling k
 unfolding firstTiling tilingsOf
 no-first zero h = refl
-no-first (suc k) h = sym (ap (λ (codes : List ℕ). getD codes 0 0) (List·getD-eq-default tilingsOf [] (past 14 (suc k) (omega arith) h)))
+no-first (suc k) h = sym (ap (λ (codes : List ℕ). getD codes 0 0) (List·getD-eq-default tilingsOf [] (past-all 14 (suc k) (omega arith) h)))
 
 -- the cases that ask something, and case 0
 abbrev asking : List ℕ
@@ -76,7 +76,7 @@ pub plainly : (q : Cube) (case c : ℕ) → c < getD configurations case 0
 plainly q case c h n3 n4 n6 n7 n10 n12 n13 code e =
     rw e
     (sym (ap (λ (b : Bool). cond b (run (answersOf q) (planOf case c) noNotes) (tiling (firstTiling case) c 0 (hasCentre (firstTiling case)) noNotes)) none)
-    ∙ unasked q c case (above h))
+    ∙ unasked q c case (of-a-case h))
   where
     nought : (case ≡ 0 → ⊥)
     nought e = let l = positive h in omega (arith, l, e)

@@ -1,7 +1,7 @@
 mod Centres
 mod Columns
 mod Controls
-mod Families
+pub mod Families
 mod Runs
 mod Settling
 mod TwoFaces

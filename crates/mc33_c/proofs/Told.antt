@@ -22,9 +22,12 @@ use Rattle.families.specs.declared.Choice.{Choice}
 use Rattle.families.specs.Plan.{refused}
 use Rattle.families.specs.Answers.{chosen}
 use Rattle.choice.specs.Choice.{choiceOf}
+use Rattle.list.specs.declared.Outcome.{Outcome}
+use Rattle.list.specs.declared.Outcome.the-variants as List
+use Rattle.list.specs.Results.{result}
 use Rattle.mc33_c.specs.declared.Mc33Choice.{Mc33Choice}
 use Rattle.mc33_c.specs.declared.Mc33Edge.{Mc33Edge}
-use Rattle.mc33_c.specs.Answers.{answered, choiceNumbers, faceNumbers, readingNumbers, edgeNumbers}
+use Rattle.mc33_c.specs.Answers.{answered, choiceNumbers, faceNumbers, readingNumbers, edgeNumbers, outcomeNumbers}
 
 pub filled : (code row column : ℕ) (centre : Bool) (unsettled : ℕ)
     → record { refusal = 0; code = code; row = row; column = column; centre = boolByte centre; unsettled = unsettled } ≡ answered code row column (bitOf centre) unsettled
@@ -56,3 +59,12 @@ module _ (q : Cube) (z y : ℤ) (e : z ≡ y) (r : EdgeAnswer) (s : Edges.said r
 
 pub chose : (z y c d : ℤ) → z ≡ y → c ≡ d → (q : Cube) (r : Choice) → chosen r ≡ choiceOf z c q → (m : Mc33Choice) → m ≡ choiceNumbers (chosen r) → m ≡ choiceNumbers (choiceOf y d q)
 chose z y c d e f q r s m g = rw (g, s, e, f)
+
+module _ (o : Outcome) where
+  pub list-done : o ≡ List.Done → record { refusal = 0; place = 0 } ≡ outcomeNumbers (result o)
+  unfolding outcomeNumbers
+  list-done f = rw f
+
+  pub list-refused : (n i : ℕ) → o ≡ List.Refused n i → (m : ℕ) → m ≡ n → record { refusal = m; place = i } ≡ outcomeNumbers (result o)
+  unfolding outcomeNumbers
+  list-refused n i f m g = rw (f, g)

@@ -8,9 +8,11 @@ use Rattle.face.specs.Face as Face
 use Rattle.edge.specs.Edge.{Told, rising, beyond, crossed, blank}
 use Rattle.edge.specs.Edge as Edge
 use Rattle.families.specs.Plan.{Chosen, empty, noTiling, tiling, refused}
+use Rattle.list.specs.Lists.{Result, done, refusedAt}
 use Rattle.mc33_c.specs.declared.Mc33Choice.{Mc33Choice}
 use Rattle.mc33_c.specs.declared.Mc33Face.{Mc33Face}
 use Rattle.mc33_c.specs.declared.Mc33Edge.{Mc33Edge}
+use Rattle.mc33_c.specs.declared.Mc33Outcome.{Mc33Outcome}
 
 abbrev pub answered : ℕ → ℕ → ℕ → ℕ → ℕ → Mc33Choice
 answered code row column centre unsettled = record { refusal = 0; code = code; row = row; column = column; centre = centre; unsettled = unsettled }
@@ -42,3 +44,8 @@ readingNumbers blank = readAs 4 nought nought
 unfoldable pub edgeNumbers : Edge.Said → Mc33Edge
 edgeNumbers (Edge.reading r) = readingNumbers r
 edgeNumbers (Edge.refused n) = record { refusal = n; kind = 0; t = nought; product = nought }
+
+-- the refusal and its place, 0 and 0 where the list is done
+unfoldable pub outcomeNumbers : Result → Mc33Outcome
+outcomeNumbers done = record { refusal = 0; place = 0 }
+outcomeNumbers (refusedAt n i) = record { refusal = n; place = i }

@@ -10,7 +10,10 @@ ghost use Rattle.cube.specs.Refusals.{refusalNumber};
 ghost use Rattle.families.specs.Plan.{refused};
 ghost use Rattle.families.specs.Answers.{chosen};
 ghost use Rattle.choice.specs.Choice.{choiceOf};
-ghost use Rattle.mc33_c.specs.Answers.{answered, choiceNumbers, faceNumbers, readAs, readingNumbers, edgeNumbers};
+ghost use lib.ListN.{length};
+ghost use Rattle.list.specs.Lists.{resultOf, answersOf};
+ghost use Rattle.list.specs.Results.{result};
+ghost use Rattle.mc33_c.specs.Answers.{answered, choiceNumbers, faceNumbers, readAs, readingNumbers, edgeNumbers, outcomeNumbers};
 use cube::Cube;
 use cube::EdgeNo;
 use cube::Face;
@@ -19,6 +22,7 @@ use edge::EdgeAnswer;
 use edge::Reading;
 use face::FaceAnswer;
 use families::Choice;
+use list::Outcome;
 
 // `refusal` is 0 where there is an answer. Empty is all 0; no tiling is code 255 with the configuration
 // as row and the sub-configuration as column.
@@ -46,6 +50,14 @@ pub struct Mc33Edge {
     pub kind: u8,
     pub t: f32,
     pub product: f32,
+}
+
+// A list's outcome: `refusal` is 0 where the list is done; `place` is that of the refused cube, counted
+// from 0.
+#[repr(C)]
+pub struct Mc33Outcome {
+    pub refusal: u64,
+    pub place: u64,
 }
 
 // The pattern of the f32 square root of the value with the pattern `bits`; 7fc00000 for every NaN.
@@ -157,4 +169,36 @@ pub extern "C" fn mc33_edge(cube: Cube, edge: i8) -> Mc33Edge
             product: 0.0,
         },
     }
+}
+
+fn wide(x: u8) -> u64
+    ensures { λ r. ⌜ r ≡ x ⌝ }
+{
+    x as u64
+}
+
+// A list's outcome as numbers.
+fn outcome_numbers(outcome: Outcome) -> Mc33Outcome
+    ensures { λ r. ⌜ r ≡ outcomeNumbers (result outcome) ⌝ }
+{
+    match outcome {
+        Outcome::Done => Mc33Outcome {
+            refusal: 0,
+            place: 0,
+        },
+        Outcome::Refused(why, i) => Mc33Outcome {
+            refusal: wide(why),
+            place: i as u64,
+        },
+    }
+}
+
+// The choices for a list of cubes: 8 corner values and 2 numbers (case and configuration) a cube, and
+// 4 answer bytes a cube. A refused list has every answer byte unchanged.
+#[no_mangle]
+pub extern "C" fn mc33_list(corners: &[f32], numbers: &[i8], answers: &mut [u8]) -> Mc33Outcome
+    ensures outcome { λ r. ⌜ r ≡ outcomeNumbers (resultOf (now (corners .entry)) (now (numbers .entry)) (length (now (answers .entry)))) ⌝ }
+    ensures answers { λ _. ⌜ now (answers .exit) ≡ answersOf (now (corners .entry)) (now (numbers .entry)) (now (answers .entry)) ⌝ }
+{
+    outcome_numbers(list::choose_list(corners, numbers, answers))
 }

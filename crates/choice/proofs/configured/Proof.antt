@@ -10,8 +10,8 @@ take-apart-requires c κs = search needs
 enum-known-c : tie.Need-enum-known-c
 enum-known-c c = search needs
 
-array-read-if1 : tie.Need-array-read-if1
-array-read-if1 c = search needs
+configurations-of-requires : tie.Need-configurations-of-requires
+configurations-of-requires c κs = search needs
 
 returns : tie.Need-returns
 returns c = search one-of
@@ -34,7 +34,7 @@ configured-spec =
     (tie.spec
     take-apart-requires
     enum-known-c
-    array-read-if1
+    configurations-of-requires
     returns
     enum-known-k
     returns-2

@@ -1,0 +1,4 @@
+pub mod Same
+mod Joined
+mod Replies
+mod Lines

@@ -1,0 +1,134 @@
+// The answer to one line of the input: document 01, 'Program'. `print_choice` prints a choice's line,
+// `put_refused` the line of a refusal, `answer_line` answers a line. Inner routines of the text program,
+// which lends them room.
+ghost use mathlib.Core.Path.{_≡_};
+ghost use mathlib.Core.Bool.{true, false};
+ghost use mathlib.Core.List.{[], _∷_, _++_};
+ghost use Prim.Native.Nat.{_+_, _≤_};
+ghost use lib.ListN.{length};
+ghost use Rattle.families.specs.Answers.{chosen};
+ghost use Rattle.put.specs.Placed.{placed};
+ghost use Rattle.put.specs.Decimal.{decimal};
+ghost use Rattle.answer.specs.Answer.{same, inputNames, fields, refusedLine, choiceReply, replyTo, printed, ends};
+use families::Choice;
+use line::Line;
+
+// The place after what was printed, and whether it was a refusal.
+pub struct Printed {
+    pub at: usize,
+    pub over: bool,
+}
+
+// A number, and a byte after it.
+fn put_field(n: u8, after: u8, out: &mut [u8], at: usize) -> usize
+    requires { ⌜ at + 4 ≤ length (now out) ⌝ }
+    ensures place { λ r. ⌜ (r ≡ at + length (decimal n ++ (after ∷ []))) × (r ≤ at + 4) ⌝ }
+    ensures text { λ _. ⌜ now (out .exit) ≡ placed (now (out .entry)) at (decimal n ++ (after ∷ [])) ⌝ }
+{
+    let i = put::small(n, out, at);
+    put::byte(after, out, i)
+}
+
+// Five numbers, single spaces, and a newline.
+fn put_fields(a: u8, b: u8, c: u8, d: u8, e: u8, out: &mut [u8], at: usize) -> usize
+    requires { ⌜ at + 20 ≤ length (now out) ⌝ }
+    ensures place { λ r. ⌜ (r ≡ at + length (fields a b c d e)) × (r ≤ at + 20) ⌝ }
+    ensures text { λ _. ⌜ now (out .exit) ≡ placed (now (out .entry)) at (fields a b c d e) ⌝ }
+{
+    let i = put_field(a, b' ', out, at);
+    let j = put_field(b, b' ', out, i);
+    let k = put_field(c, b' ', out, j);
+    let l = put_field(d, b' ', out, k);
+    put_field(e, b'\n', out, l)
+}
+
+// The line of a refusal's number at a line of the input.
+pub fn put_refused(why: u8, number: u64, out: &mut [u8], at: usize) -> usize
+    requires { ⌜ at + 64 ≤ length (now out) ⌝ }
+    ensures place { λ r. ⌜ (r ≡ at + length (refusedLine why number)) × (r ≤ at + 64) ⌝ }
+    ensures text { λ _. ⌜ now (out .exit) ≡ placed (now (out .entry)) at (refusedLine why number) ⌝ }
+{
+    let i = put::bytes(b"refused ", out, at);
+    let j = put_field(why, b' ', out, i);
+    let k = put::decimal(number, out, j);
+    put::byte(b'\n', out, k)
+}
+
+fn answered(at: usize) -> Printed
+    ensures { λ r. ⌜ (r .at ≡ at) × (r .over ≡ false) ⌝ }
+{
+    Printed {
+        at: at,
+        over: false,
+    }
+}
+
+fn refused(at: usize) -> Printed
+    ensures { λ r. ⌜ (r .at ≡ at) × (r .over ≡ true) ⌝ }
+{
+    Printed { at: at, over: true }
+}
+
+// A choice at a line of the input.
+pub fn print_choice(choice: Choice, number: u64, out: &mut [u8], at: usize) -> Printed
+    requires { ⌜ at + 64 ≤ length (now out) ⌝ }
+    ensures place { λ r. ⌜ r .at ≡ at + length (printed number (choiceReply (chosen choice))) ⌝ }
+    ensures end { λ r. ⌜ r .over ≡ ends (choiceReply (chosen choice)) ⌝ }
+    ensures text { λ _. ⌜ now (out .exit) ≡ placed (now (out .entry)) at (printed number (choiceReply (chosen choice))) ⌝ }
+    ensures room { λ r. ⌜ (r .at ≤ at + 64) × (r .over ≡ false → r .at ≤ at + 20) ⌝ }
+{
+    match choice {
+        Choice::Empty => answered(put_fields(0, 0, 0, 0, 0, out, at)),
+        Choice::Untiled(c, sub) => answered(put_fields(255, c, sub, 0, 0, out, at)),
+        Choice::Tiled(t) => {
+            answered(put_fields(
+                t.code,
+                t.row,
+                t.column,
+                t.centre as u8,
+                t.notes.unsettled,
+                out,
+                at,
+            ))
+        }
+        Choice::Refused(why) => refused(put_refused(cube::number(why), number, out, at)),
+    }
+}
+
+// Whether a line names the input's fields.
+fn is_names(line: &[u8]) -> bool
+    ensures { λ r. ⌜ r ≡ same (now (line .entry)) inputNames ⌝ }
+{
+    let names = b"case config c0 c1 c2 c3 c4 c5 c6 c7";
+    if line.len() != 35 {
+        return false;
+    }
+    let mut i = 0;
+    while i < 35 {
+        if line[i] != names[i] {
+            return false;
+        }
+        i += 1;
+    }
+    true
+}
+
+// A line of the input without its newline: line 1 names the fields.
+pub fn answer_line(line: &[u8], number: u64, out: &mut [u8], at: usize) -> Printed
+    requires { ⌜ at + 64 ≤ length (now out) ⌝ }
+    ensures place { λ r. ⌜ r .at ≡ at + length (printed number (replyTo number (now (line .entry)))) ⌝ }
+    ensures end { λ r. ⌜ r .over ≡ ends (replyTo number (now (line .entry))) ⌝ }
+    ensures text { λ _. ⌜ now (out .exit) ≡ placed (now (out .entry)) at (printed number (replyTo number (now (line .entry)))) ⌝ }
+    ensures room { λ r. ⌜ (r .at ≤ at + 64) × (r .over ≡ false → r .at ≤ at + length (now (line .entry))) ⌝ }
+{
+    if number <= 1 {
+        if is_names(line) {
+            return answered(put::bytes(b"code row column centre unsettled\n", out, at));
+        }
+        return refused(put_refused(8, number, out, at));
+    }
+    let Line::Given(case, configuration, q) = line::parse_line(line) else {
+        return refused(put_refused(8, number, out, at));
+    };
+    print_choice(choice::handle_cube(case, configuration, q), number, out, at)
+}

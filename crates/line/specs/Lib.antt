@@ -1,0 +1,3 @@
+pub mod Number
+pub mod Line
+pub mod Written

@@ -1,0 +1,41 @@
+-- Document 01, 'Program': a line of two decimals and eight corners, single spaces. Definitions only.
+use Prim.Native.Nat.{ℕ, suc, _+_, _-_, _*_}
+use mathlib.Core.Bool.{Bool, true, cond, _&&_}
+use mathlib.Core.List.{List, [], _∷_, map, foldr}
+use lib.Dec.{eqb, ltb}
+use lib.IntN.{ℤ}
+use lib.ListN.{length, getD, take, drop}
+use Rattle.bytes.specs.Bytes.{indexOf}
+use Rattle.cube.specs.declared.Cube.{Cube}
+use Rattle.cube.specs.Corners.{cube}
+use Rattle.hex.specs.Hex.{wordOf}
+use Rattle.line.specs.declared.Number.{Number}
+use Rattle.line.specs.declared.Number.the-variants.{Is, Broken}
+use Rattle.line.specs.declared.Line.{Line}
+use Rattle.line.specs.declared.Line.the-variants.{Given, Malformed}
+use Rattle.line.specs.Number.{signedOf}
+
+-- corner k of the line's last 72 bytes: a space and eight hex digits; 2^32 where it is not so
+unfoldable pub cornerBits : List ℕ → ℕ → ℕ
+cornerBits tail k = cond (eqb (getD tail (9 * k) 0) 32) (wordOf tail (9 * k + 1)) 0x100000000
+
+unfoldable pub haveCorners : List ℕ → Bool
+haveCorners tail = foldr _&&_ true (map (λ k. ltb (cornerBits tail k) 0x100000000) (0 ∷ 1 ∷ 2 ∷ 3 ∷ 4 ∷ 5 ∷ 6 ∷ 7 ∷ []))
+
+unfoldable pub cubeIn : List ℕ → Cube
+cubeIn tail =
+    let bits = cornerBits tail in
+    cube (bits 0) (bits 1) (bits 2) (bits 3) (bits 4) (bits 5) (bits 6) (bits 7)
+
+unfoldable pub lineFrom : Number → Number → List ℕ → Line
+lineFrom (Is case) (Is configuration) tail = cond (haveCorners tail) (Given case configuration (cubeIn tail)) Malformed
+lineFrom (Is case) Broken tail = Malformed
+lineFrom Broken configuration tail = Malformed
+
+-- a line without its newline. Its last 72 bytes are the corners; what comes before is cut at its first space
+unfoldable pub parseLine : List ℕ → Line
+parseLine line =
+    let n = length line - 72 in
+    let head = take n line in
+    let k = indexOf 32 head in
+    lineFrom (signedOf (take k head)) (signedOf (drop (suc k) head)) (drop n line)

@@ -1,0 +1,46 @@
+-- A list's cubes and their choices, as the code reads them. Assumes nothing.
+use mathlib.Core.Path.{_≡_, sym, ap, _∙_, subst}
+use mathlib.Core.Bool.{Bool, cond}
+use mathlib.Core.List.{List}
+use Prim.Native.Nat.{ℕ, _+_, _*_, _/_, _%_, _≤_, _<_}
+use lib.Dec.{eqb}
+use lib.IntN.{ℤ, pos}
+use lib.ListN.{length, getD}
+use lib.Ieee.{Float}
+use borrow.Author.Tests.{lt-ltb}
+use mir.Syntax.{w8}
+use mir.Val.{SFits, toZ, ofZ}
+use mir.ValLaws.{toZ-ofZ}
+use Rattle.cube.specs.declared.Cube.{Cube}
+use Rattle.reader.specs.declared.Step.{Step}
+use Rattle.reader.specs.declared.Step.the-variants as step
+use Rattle.reader.specs.Reader.{cubeAt, stepAt}
+use Rattle.families.specs.Plan.{Chosen}
+use Rattle.choice.specs.Choice.{choiceOf, unsettledIn}
+use Rattle.choice.proofs.Ranges.{unsettled-bound}
+use Rattle.list.specs.Lists.{choiceAt}
+
+module _ (xs : List Float) (i : ℕ) (h : i < length xs / 8) (r : Step) (e : r ≡ stepAt xs i) where
+  stands : r ≡ step.Cube (cubeAt xs i)
+  unfolding stepAt
+  stands =
+      e ∙ ap (λ (b : Bool). cond b (step.Cube (cubeAt xs i)) (cond (eqb (length xs % 8) 0) step.End step.Part)) (lt-ltb i (length xs / 8) h)
+
+  pub read-cube : (q : Cube) → r ≡ step.Cube q → q ≡ cubeAt xs i
+  read-cube q f = let s = stands in cc
+
+  pub no-part : (q : Cube) → r ≡ step.Part → q ≡ cubeAt xs i
+  no-part q f = let s = stands in cc
+
+  pub no-end : (q : Cube) → r ≡ step.End → q ≡ cubeAt xs i
+  no-end q f = let s = stands in cc
+
+-- the case, the configuration and the cube as they are read
+pub at-place : (xs : List Float) (ns : List ℤ) (i : ℕ) (q : Cube) → SFits w8 (getD ns (2 * i) (pos 0)) → SFits w8 (getD ns (2 * i + 1) (pos 0)) → q ≡ cubeAt xs i
+    → choiceOf (toZ w8 (ofZ w8 (getD ns (2 * i) (pos 0)))) (toZ w8 (ofZ w8 (getD ns (2 * i + 1) (pos 0)))) q ≡ choiceAt xs ns i
+unfolding choiceAt
+at-place xs ns i q f g e = rw (toZ-ofZ w8 (getD ns (2 * i) (pos 0)) f, toZ-ofZ w8 (getD ns (2 * i + 1) (pos 0)) g, e)
+
+pub few-unsettled : (case configuration : ℤ) (q : Cube) (s : Chosen) → s ≡ choiceOf case configuration q → unsettledIn s ≤ 3
+few-unsettled case configuration q s e =
+    subst (λ (s : Chosen). unsettledIn s ≤ 3) (sym e) (unsettled-bound case configuration q)

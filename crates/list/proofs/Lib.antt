@@ -1,0 +1,5 @@
+mod Controls
+mod Cubes
+mod Firsts
+mod Outcomes
+mod Rows

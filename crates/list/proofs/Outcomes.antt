@@ -1,0 +1,90 @@
+-- What a list comes to, and its answer bytes, from the tests as the code makes them. Assumes nothing.
+use mathlib.Core.Path.{_≡_, refl, sym, ap, _∙_}
+use mathlib.Core.Bool.{Bool, true, false, cond, not, _&&_}
+use mathlib.Core.List.{List, _++_}
+use Prim.Native.Nat.{ℕ, _*_, _/_, _%_, _≤_, _<_}
+use native.Mathlib.Nat.{zero-add}
+use native.Mathlib.Omega.{arith}
+use lib.Dec.{eqb, leb}
+use lib.IntN.{ℤ}
+use lib.ListN.{length, drop}
+use lib.Ieee.{Float}
+use borrow.Author.Tests.{eqb-true, le-leb, lt-leb}
+use Rattle.put.specs.Placed.{placed}
+use Rattle.list.specs.Lists.{cubes, isEven, Result, done, refusedAt, firstFrom, resultOf, rowsOf, answersBy, answersOf}
+use Rattle.list.specs.declared.Outcome.{Outcome}
+use Rattle.list.specs.declared.Outcome.the-variants.{Done, Refused}
+use Rattle.list.specs.Results.{result}
+use Rattle.list.specs.Tries.{ListTries}
+use Rattle.list.proofs.Controls.{tries-hold}
+
+is-true : (b : Bool) → not b ≡ false → b ≡ true
+is-true true e = refl
+is-true false e = cc
+
+is-false : (b : Bool) → not b ≡ true → b ≡ false
+is-false true e = cc
+is-false false e = refl
+
+last-holds : (a b c : Bool) → a && b && c ≡ true → c ≡ true
+last-holds true true c e = e
+last-holds true false c e = cc
+last-holds false b c e = cc
+
+module _ (xs : List Float) (ns : List ℤ) where
+  -- the test of refusal 6, as the code makes it
+  abbrev uneven : Bool
+  uneven = not (eqb (length xs % 8) 0 && eqb (length ns % 2) 0 && eqb (cubes xs) (length ns / 2))
+
+  pub enough : uneven ≡ false → 2 * cubes xs ≤ length ns
+  enough e =
+      let same =
+      eqb-true (cubes xs) (length ns / 2)
+      (last-holds (eqb (length xs % 8) 0) (eqb (length ns % 2) 0) (eqb (cubes xs) (length ns / 2)) (is-true (eqb (length xs % 8) 0 && eqb (length ns % 2) 0 && eqb (cubes xs) (length ns / 2)) e)) in
+      omega arith
+
+  module _ (ys : List ℕ) where
+    -- what `choose_list` promises
+    abbrev Promised : Result → List ℕ → Type 0
+    Promised r zs = (r ≡ resultOf xs ns (length ys)) × ((zs ≡ answersOf xs ns ys) × ListTries)
+
+    promised : (r : Result) (zs : List ℕ) → r ≡ resultOf xs ns (length ys) → zs ≡ answersBy r (rowsOf xs ns (cubes xs)) ys → Promised r zs
+    unfolding answersOf
+    promised r zs e f =
+        (e, (f ∙ ap (λ (r : Result). answersBy r (rowsOf xs ns (cubes xs)) ys) e, tries-hold))
+
+    -- by the two tests
+    tested : (b d : Bool) → isEven xs ns ≡ b → leb (4 * cubes xs) (length ys) ≡ d
+        → cond b (cond d (firstFrom xs ns (cubes xs) 0) (refusedAt 7 0)) (refusedAt 6 0) ≡ resultOf xs ns (length ys)
+    unfolding resultOf
+    tested b d e f = rw (sym e, sym f)
+
+    pub not-even : uneven ≡ true → Promised (refusedAt 6 0) ys
+    unfolding isEven
+    not-even e =
+        promised (refusedAt 6 0) ys
+        (tested false (leb (4 * cubes xs) (length ys)) (is-false (isEven xs ns) e) refl)
+        refl
+
+    module _ (even : uneven ≡ false) where
+      pub no-room : length ys < 4 * cubes xs → Promised (refusedAt 7 0) ys
+      unfolding isEven
+      no-room h =
+          promised (refusedAt 7 0) ys (tested true false (is-true (isEven xs ns) even) (lt-leb (4 * cubes xs) (length ys) h)) refl
+
+      module _ (room : 4 * cubes xs ≤ length ys) (o : Outcome) (e : result o ≡ firstFrom xs ns (cubes xs) 0) where
+        first : firstFrom xs ns (cubes xs) 0 ≡ resultOf xs ns (length ys)
+        unfolding isEven
+        first = tested true true (is-true (isEven xs ns) even) (le-leb (4 * cubes xs) (length ys) room)
+
+        pub none-refused : o ≡ Done → firstFrom xs ns (cubes xs) 0 ≡ done
+        none-refused f = sym e ∙ ap result f
+
+        pub all-done : o ≡ Done → (zs : List ℕ) → zs ≡ placed ys 0 (rowsOf xs ns (cubes xs)) → Promised done zs
+        unfolding placed
+        all-done f zs g =
+            let rows = rowsOf xs ns (cubes xs) in
+            promised done zs (sym (none-refused f) ∙ first) (g ∙ ap (λ (k : ℕ). rows ++ drop k ys) (zero-add (length rows)))
+
+        pub one-refused : (n i : ℕ) → o ≡ Refused n i → Promised (refusedAt n i) ys
+        one-refused n i f = promised (refusedAt n i) ys (sym (ap result f) ∙ e ∙ first) refl

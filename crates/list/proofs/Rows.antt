@@ -1,0 +1,100 @@
+-- Rows of four bytes: a choice's row, a row put by four stores, and one row more. Assumes nothing.
+use mathlib.Core.Path.{_≡_, refl, sym, ap, _∙_, subst}
+use mathlib.Core.List.{List, [], _∷_, _++_}
+use Prim.Native.Nat.{ℕ, zero, suc, _+_, _*_, _≤_, _<_}
+use native.Mathlib.Numerals.{add-one}
+use native.Mathlib.Omega.{arith}
+use lib.IntN.{ℤ}
+use lib.ListN.{length, set, length-append}
+use lib.Ieee.{Float}
+use mir.Val.{boolByte}
+use Rattle.cube.proofs.Bounds.{bit-bound}
+use Rattle.families.specs.declared.Choice.{Choice}
+use Rattle.families.specs.declared.Choice.the-variants.{Tiled}
+use Rattle.families.specs.declared.Tiling.{Tiling}
+use Rattle.families.specs.Plan.{Chosen, empty, noTiling, tiling, refused}
+use Rattle.families.specs.Answers.{chosen}
+use Rattle.choice.specs.Choice.{unsettledIn}
+use Rattle.put.specs.Placed.{placed}
+use Rattle.put.proofs.Placed.{placed-length, placed-twice, set-placed}
+use Rattle.list.specs.Lists.{choiceAt, bytesOf, rowsOf}
+use Rattle.list.specs.declared.Row.{Row}
+use Rattle.list.specs.Results.{bytesIn}
+
+-- ---- a choice's row
+pub row-as : (r s : Row) → r ≡ s → (x y : Choice) → x ≡ y → bytesIn s ≡ bytesOf (chosen y) → bytesIn r ≡ bytesOf (chosen x)
+row-as r s e x y f g = ap bytesIn e ∙ g ∙ ap (λ (x : Choice). bytesOf (chosen x)) (sym f)
+
+pub row-tiled : (r : Row) (t : Tiling) (x : Choice) → x ≡ Tiled t
+    → r ≡ record { code = t .code; row = t .row; column = t .column; rest = boolByte (t .centre) + 2 * t .notes .unsettled }
+    → bytesIn r ≡ bytesOf (chosen x)
+unfolding bytesOf
+row-tiled r t x f e =
+    row-as r (record { code = t .code; row = t .row; column = t .column; rest = boolByte (t .centre) + 2 * t .notes .unsettled }) e x (Tiled t) f
+    (ap (λ (n : ℕ). t .code ∷ t .row ∷ t .column ∷ (n + 2 * t .notes .unsettled) ∷ []) (bit-bound (t .centre) .1))
+
+pub unsettled-read : (x : Choice) (t : Tiling) → x ≡ Tiled t → unsettledIn (chosen x) ≤ 3 → t .notes .unsettled ≤ 3
+unfolding unsettledIn
+unsettled-read x t e h = subst (λ (x : Choice). unsettledIn (chosen x) ≤ 3) e h
+
+-- ---- four stores
+one-more : (xs : List ℕ) (at : ℕ) (text : List ℕ) (k b : ℕ) → k ≡ at + length text → k < length xs → set (placed xs at text) k b ≡ placed xs at (text ++ (b ∷ []))
+one-more xs at text k b e h =
+    let l = placed-length xs at text (omega arith) in
+    set-placed (placed xs at text) k b (omega arith)
+    ∙ ap (λ (k : ℕ). placed (placed xs at text) k (b ∷ [])) e
+    ∙ placed-twice xs at text (b ∷ []) (omega arith)
+
+pub four-put : (xs : List ℕ) (at a b c d : ℕ) → at + 4 ≤ length xs
+    → set (set (set (set xs at a) (at + 1) b) (at + 2) c) (at + 3) d ≡ placed xs at (a ∷ b ∷ c ∷ d ∷ [])
+four-put xs at a b c d h =
+    ap (λ (ys : List ℕ). set (set (set ys (at + 1) b) (at + 2) c) (at + 3) d) (set-placed xs at a (omega arith))
+    ∙ ap (λ (ys : List ℕ). set (set ys (at + 2) c) (at + 3) d) (one-more xs at (a ∷ []) (at + 1) b refl (omega arith))
+    ∙ ap (λ (ys : List ℕ). set ys (at + 3) d) (one-more xs at (a ∷ b ∷ []) (at + 2) c refl (omega arith))
+    ∙ one-more xs at (a ∷ b ∷ c ∷ []) (at + 3) d refl (omega arith)
+
+-- ---- rows one after another
+bytes-length : (s : Chosen) → length (bytesOf s) ≡ 4
+unfolding bytesOf
+bytes-length empty = refl
+bytes-length (noTiling c sub) = refl
+bytes-length (tiling code row column centre m) = refl
+bytes-length (refused n) = refl
+
+module _ (xs : List Float) (ns : List ℤ) where
+  pub rows-length : (k : ℕ) → length (rowsOf xs ns k) ≡ 4 * k
+  unfolding rowsOf
+  rows-length zero = refl
+  rows-length (suc k) =
+      let l = length-append (rowsOf xs ns k) (bytesOf (choiceAt xs ns k)) in
+      let four = bytes-length (choiceAt xs ns k) in
+      let e = rows-length k in
+      omega arith
+
+  row-more : (before ys : List ℕ) (i : ℕ) (bytes : List ℕ) → 4 * i + 4 ≤ length before → ys ≡ placed before 0 (rowsOf xs ns i) → bytes ≡ bytesOf (choiceAt xs ns i)
+      → placed ys (4 * i) bytes ≡ placed before 0 (rowsOf xs ns (i + 1))
+  unfolding rowsOf
+  row-more before ys i bytes h e f =
+      let rows = rowsOf xs ns i in
+      let row = bytesOf (choiceAt xs ns i) in
+      let long = rows-length i in
+      let four = bytes-length (choiceAt xs ns i) in
+      let there : 4 * i ≡ 0 + length rows = omega arith in
+      ap (λ (ys : List ℕ). placed ys (4 * i) bytes) e
+      ∙ ap (placed (placed before 0 rows) (4 * i)) f
+      ∙ ap (λ (k : ℕ). placed (placed before 0 rows) k row) there
+      ∙ placed-twice before 0 rows row (omega arith)
+      ∙ ap (λ (k : ℕ). placed before 0 (rowsOf xs ns k)) (sym (add-one i))
+
+  -- a turn of the loop that puts the rows
+  pub rows-again : (before ys zs : List ℕ) (i : ℕ) (r : Row) → 4 * i + 4 ≤ length before → length ys ≡ length before → ys ≡ placed before 0 (rowsOf xs ns i)
+      → bytesIn r ≡ bytesOf (choiceAt xs ns i) → zs ≡ placed ys (4 * i) (bytesIn r)
+      → (length zs ≡ length before) × (zs ≡ placed before 0 (rowsOf xs ns (i + 1)))
+  rows-again before ys zs i r h long e f g =
+      let kept = placed-length ys (4 * i) (bytesIn r) (omega arith) in
+      (ap length g ∙ kept ∙ long, g ∙ row-more before ys i (bytesIn r) h e f)
+
+  pub rows-all : (before ys : List ℕ) (i n : ℕ) → i ≤ n → n ≤ i → ys ≡ placed before 0 (rowsOf xs ns i) → ys ≡ placed before 0 (rowsOf xs ns n)
+  rows-all before ys i n h l e =
+      let same : i ≡ n = omega arith in
+      e ∙ ap (λ (k : ℕ). placed before 0 (rowsOf xs ns k)) same

@@ -1,0 +1,58 @@
+-- Document 01, 'List' and 'What is refused': a list of cubes, what it comes to, and its answer bytes. Definitions only.
+use Prim.Native.Nat.{ℕ, zero, suc, _+_, _*_, _/_, _%_}
+use mathlib.Core.Bool.{Bool, cond, _&&_}
+use mathlib.Core.List.{List, [], _∷_, _++_}
+use lib.Dec.{eqb, leb}
+use lib.IntN.{ℤ, pos}
+use lib.ListN.{length, getD, drop}
+use lib.Ieee.{Float}
+use Rattle.cube.specs.Bits.{bitOf}
+use Rattle.families.specs.Plan.{Chosen, empty, noTiling, tiling, refused}
+use Rattle.choice.specs.Choice.{choiceOf, refusalOf}
+use Rattle.reader.specs.Reader.{cubeAt}
+
+-- 8 corner values a cube
+abbrev pub cubes : List Float → ℕ
+cubes xs = length xs / 8
+
+-- 8 values and 2 numbers a cube, and of both the same cubes
+unfoldable pub isEven : List Float → List ℤ → Bool
+isEven xs ns = eqb (length xs % 8) 0 && eqb (length ns % 2) 0 && eqb (cubes xs) (length ns / 2)
+
+-- the choice for cube i
+unfoldable pub choiceAt : List Float → List ℤ → ℕ → Chosen
+choiceAt xs ns i = choiceOf (getD ns (2 * i) (pos 0)) (getD ns (2 * i + 1) (pos 0)) (cubeAt xs i)
+
+-- done, or the number of a refusal and the place of its cube
+pub data Result : Type 0 where
+  done : Result
+  refusedAt : ℕ → ℕ → Result
+
+-- of k cubes from cube i on, the first that is refused
+unfoldable pub firstFrom : List Float → List ℤ → ℕ → ℕ → Result
+firstFrom xs ns zero i = done
+firstFrom xs ns (suc k) i = let n = refusalOf (choiceAt xs ns i) in cond (eqb n 0) (firstFrom xs ns k (suc i)) (refusedAt n i)
+
+-- refusal 6, then 7, where there is room for fewer than 4 bytes a cube, then the cubes from the first
+unfoldable pub resultOf : List Float → List ℤ → ℕ → Result
+resultOf xs ns room = cond (isEven xs ns) (cond (leb (4 * cubes xs) room) (firstFrom xs ns (cubes xs) 0) (refusedAt 7 0)) (refusedAt 6 0)
+
+-- the four bytes of a choice; a list with a refused one writes none
+unfoldable pub bytesOf : Chosen → List ℕ
+bytesOf empty = 0 ∷ 0 ∷ 0 ∷ 0 ∷ []
+bytesOf (noTiling c sub) = 255 ∷ c ∷ sub ∷ 0 ∷ []
+bytesOf (tiling code row column centre m) = code ∷ row ∷ column ∷ (bitOf centre + 2 * m .unsettled) ∷ []
+bytesOf (refused n) = 0 ∷ 0 ∷ 0 ∷ 0 ∷ []
+
+-- the bytes of the first k cubes
+unfoldable pub rowsOf : List Float → List ℤ → ℕ → List ℕ
+rowsOf xs ns zero = []
+rowsOf xs ns (suc k) = rowsOf xs ns k ++ bytesOf (choiceAt xs ns k)
+
+-- the answer bytes afterwards: bytes past the last cube's stay, and a refused list has every byte unchanged
+abbrev pub answersBy : Result → List ℕ → List ℕ → List ℕ
+answersBy done rows ys = rows ++ drop (length rows) ys
+answersBy (refusedAt n i) rows ys = ys
+
+unfoldable pub answersOf : List Float → List ℤ → List ℕ → List ℕ
+answersOf xs ns ys = answersBy (resultOf xs ns (length ys)) (rowsOf xs ns (cubes xs)) ys

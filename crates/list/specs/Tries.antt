@@ -1,0 +1,68 @@
+-- Document 01, 'A reviewer's tries' 4 and 5, and a list for each refusal of a list. Values are written as bits. Definitions only.
+use Prim.Native.Nat.{ℕ}
+use mathlib.Core.Path.{_≡_}
+use mathlib.Core.List.{List, [], _∷_, _++_, map}
+use lib.IntN.{ℤ, pos, negsuc}
+use lib.ListN.{length}
+use lib.Ieee.{Float, binary32, ofBits}
+use Rattle.list.specs.Lists.{Result, done, refusedAt, resultOf, answersOf}
+
+pub record Try : Type 0 where
+  pub corners : List ℕ
+  pub numbers : List ℤ
+  pub answers : List ℕ
+  pub says : Result
+  pub leaves : List ℕ
+
+abbrev try : List ℕ → List ℤ → List ℕ → Result → List ℕ → Try
+try xs ns ys r zs = record { corners = xs; numbers = ns; answers = ys; says = r; leaves = zs }
+
+-- c0=c2=2, others -1: 3_2
+abbrev first : List ℕ
+first = 0x40000000 ∷ 0xbf800000 ∷ 0x40000000 ∷ 0xbf800000 ∷ 0xbf800000 ∷ 0xbf800000 ∷ 0xbf800000 ∷ 0xbf800000 ∷ []
+
+-- c0=c2=1, c1=c3=-2, others -1: 3_1
+abbrev second : List ℕ
+second = 0x3f800000 ∷ 0xc0000000 ∷ 0x3f800000 ∷ 0xc0000000 ∷ 0xbf800000 ∷ 0xbf800000 ∷ 0xbf800000 ∷ 0xbf800000 ∷ []
+
+-- c0=c6=3, others -1: 4_2, unsettled 3
+abbrev third : List ℕ
+third = 0x40400000 ∷ 0xbf800000 ∷ 0xbf800000 ∷ 0xbf800000 ∷ 0xbf800000 ∷ 0xbf800000 ∷ 0x40400000 ∷ 0xbf800000 ∷ []
+
+-- c7 is NaN
+abbrev spoilt : List ℕ
+spoilt = 0xbf800000 ∷ 0xbf800000 ∷ 0xbf800000 ∷ 0xbf800000 ∷ 0xbf800000 ∷ 0xbf800000 ∷ 0xbf800000 ∷ 0x7fc00000 ∷ []
+
+abbrev four : List ℕ
+four = 9 ∷ 9 ∷ 9 ∷ 9 ∷ []
+
+abbrev case3 : List ℤ
+case3 = pos 3 ∷ pos 0 ∷ []
+
+unfoldable pub tries : List Try
+tries =
+    -- one cube; two; and more room than two need
+    try first case3 four done (4 ∷ 0 ∷ 0 ∷ 0 ∷ [])
+    ∷ try (first ++ second) (case3 ++ case3) (four ++ four) done (4 ∷ 0 ∷ 0 ∷ 0 ∷ 3 ∷ 0 ∷ 0 ∷ 0 ∷ [])
+    ∷ try (third ++ first) (pos 4 ∷ pos 0 ∷ pos 0 ∷ negsuc 0 ∷ []) (four ++ four ++ four) done (6 ∷ 0 ∷ 0 ∷ 6 ∷ 0 ∷ 0 ∷ 0 ∷ 0 ∷ four)
+    -- no cubes
+    ∷ try [] [] four done four
+    -- the second cube is refused, and the first of two that are
+    ∷ try (first ++ spoilt) (case3 ++ case3) (four ++ four) (refusedAt 3 1) (four ++ four)
+    ∷ try (first ++ spoilt ++ first) (case3 ++ case3 ++ (pos 15 ∷ pos 0 ∷ [])) (four ++ four ++ four) (refusedAt 3 1) (four ++ four ++ four)
+    -- 6: 8 values and 4 numbers, an odd number of numbers, a value more; and before 7 and 3
+    ∷ try first (case3 ++ case3) four (refusedAt 6 0) four
+    ∷ try first (pos 3 ∷ pos 0 ∷ pos 0 ∷ []) four (refusedAt 6 0) four
+    ∷ try (first ++ (0 ∷ [])) case3 four (refusedAt 6 0) four
+    ∷ try spoilt [] [] (refusedAt 6 0) []
+    -- 7: 1 cube and 3 bytes; and before 3
+    ∷ try first case3 (9 ∷ 9 ∷ 9 ∷ []) (refusedAt 7 0) (9 ∷ 9 ∷ 9 ∷ [])
+    ∷ try spoilt case3 [] (refusedAt 7 0) []
+    ∷ []
+
+abbrev values : Try → List Float
+values t = map (ofBits binary32) (t .corners)
+
+pub record ListTries : Type 0 where
+  pub outcomes : map (λ t. resultOf (values t) (t .numbers) (length (t .answers))) tries ≡ map (λ t. t .says) tries
+  pub answers : map (λ t. answersOf (values t) (t .numbers) (t .answers)) tries ≡ map (λ t. t .leaves) tries

@@ -1,0 +1,89 @@
+-- Text put at a place: its length, one text after another, one store, one more byte of a copy and of a move. Assumes nothing.
+use mathlib.Core.Path.{_≡_, sym, ap, _∙_, subst}
+use mathlib.Core.List.{List, [], _∷_, _++_, append-assoc}
+use Prim.Native.Nat.{ℕ, _+_, _≤_, _<_}
+use native.Mathlib.Nat.{add-zero, zero-add, add-assoc, add-comm}
+use native.Mathlib.Numerals.{add-one}
+use native.Mathlib.Omega.{arith}
+use lib.ListN.{length, take, drop, set, getD, length-append, length-drop, take-append-drop}
+use lib.Seq.{length-take-le, take-append-seam, take-at, drop-append-add, drop-drop, set-split, take-suc, getD-append-add, getD-take, getD-drop}
+use Rattle.put.specs.Placed.{placed}
+
+pub placed-length : (xs : List ℕ) (at : ℕ) (text : List ℕ) → at + length text ≤ length xs → length (placed xs at text) ≡ length xs
+unfolding placed
+placed-length xs at text h =
+    let whole = length-append (take at xs) (text ++ drop (at + length text) xs) in
+    let rest = length-append text (drop (at + length text) xs) in
+    let before = length-take-le at xs (omega arith) in
+    let after = length-drop (at + length text) xs in
+    omega arith
+
+pub placed-nothing : (xs : List ℕ) (at : ℕ) → placed xs at [] ≡ xs
+unfolding placed
+placed-nothing xs at = ap (λ (k : ℕ). take at xs ++ drop k xs) (add-zero at) ∙ take-append-drop at xs
+
+pub placed-front : (xs text : List ℕ) → take (length text) (placed xs 0 text) ≡ text
+unfolding placed
+placed-front xs text = take-append-seam text (drop (0 + length text) xs)
+
+-- m elements past a first part, which has n
+drop-past : (p q : List ℕ) (n m : ℕ) → length p ≡ n → drop (n + m) (p ++ q) ≡ drop m q
+drop-past p q n m e = subst (λ (k : ℕ). drop (k + m) (p ++ q) ≡ drop m q) e (drop-append-add p q m)
+
+-- a text, and more right after it
+pub placed-twice : (xs : List ℕ) (at : ℕ) (text more : List ℕ) → at + length text + length more ≤ length xs
+    → placed (placed xs at text) (at + length text) more ≡ placed xs at (text ++ more)
+unfolding placed
+placed-twice xs at text more h =
+    let k = at + length text in
+    let front = take at xs ++ text in
+    let e : length front ≡ k = length-append (take at xs) text ∙ ap (λ (m : ℕ). m + length text) (length-take-le at xs (omega arith)) in
+    ap (λ (l : List ℕ). take k l ++ (more ++ drop (k + length more) l)) (sym (append-assoc (take at xs) text (drop k xs)))
+    ∙ ap (λ (l : List ℕ). l ++ (more ++ drop (k + length more) (front ++ drop k xs))) (take-at front (drop k xs) k e)
+    ∙ ap (λ (l : List ℕ). front ++ (more ++ l)) (drop-past front (drop k xs) k (length more) e ∙ drop-drop (length more) k xs)
+    ∙ append-assoc (take at xs) text (more ++ drop (k + length more) xs)
+    ∙ ap (λ (l : List ℕ). take at xs ++ l) (sym (append-assoc text more (drop (k + length more) xs)))
+    ∙ ap (λ (m : ℕ). take at xs ++ (text ++ more ++ drop m xs)) (add-assoc at (length text) (length more) ∙ ap (λ (m : ℕ). at + m) (sym (length-append text more)))
+
+pub set-placed : (xs : List ℕ) (at b : ℕ) → at < length xs → set xs at b ≡ placed xs at (b ∷ [])
+unfolding placed
+set-placed xs at b h = set-split xs at b h ∙ ap (λ (k : ℕ). take at xs ++ b ∷ drop k xs) (sym (add-one at))
+
+-- a turn of the loop that copies
+pub copied-one : (xs : List ℕ) (at : ℕ) (text : List ℕ) (i : ℕ) → at + length text ≤ length xs → i < length text
+    → set (placed xs at (take i text)) (at + i) (getD text i 0) ≡ placed xs at (take (i + 1) text)
+copied-one xs at text i h l =
+    let b = getD text i 0 in
+    let e : length (take i text) ≡ i = length-take-le i text (omega arith) in
+    let long = placed-length xs at (take i text) (omega arith) in
+    set-placed (placed xs at (take i text)) (at + i) b (omega arith)
+    ∙ ap (λ (k : ℕ). placed (placed xs at (take i text)) (at + k) (b ∷ [])) (sym e)
+    ∙ placed-twice xs at (take i text) (b ∷ []) (omega arith)
+    ∙ ap (placed xs at) (sym (take-suc text i 0 l))
+    ∙ ap (λ (k : ℕ). placed xs at (take k text)) (sym (add-one i))
+
+-- what stands after a text that was placed at the front
+after-front : (xs text : List ℕ) (k : ℕ) → getD (placed xs 0 text) (length text + k) 0 ≡ getD xs (length text + k) 0
+unfolding placed
+after-front xs text k =
+    getD-append-add text (drop (0 + length text) xs) k 0
+    ∙ getD-drop (0 + length text) xs k 0
+    ∙ ap (λ (n : ℕ). getD xs (n + k) 0) (zero-add (length text))
+
+-- a turn of the loop that moves n bytes to the front
+pub moved-one : (xs : List ℕ) (from n i : ℕ) → from + n ≤ length xs → i < n
+    → set (placed xs 0 (take i (take n (drop from xs)))) i (getD (placed xs 0 (take i (take n (drop from xs)))) (from + i) 0)
+    ≡ placed xs 0 (take (i + 1) (take n (drop from xs)))
+moved-one xs from n i h l =
+    let text = take n (drop from xs) in
+    let rest = length-drop from xs in
+    let whole : length text ≡ n = length-take-le n (drop from xs) (omega arith) in
+    let e : length (take i text) ≡ i = length-take-le i text (omega arith) in
+    let read : getD (placed xs 0 (take i text)) (from + i) 0 ≡ getD text i 0 =
+    ap (λ (k : ℕ). getD (placed xs 0 (take i text)) k 0) (add-comm from i ∙ ap (λ (k : ℕ). k + from) (sym e))
+    ∙ after-front xs (take i text) from
+    ∙ ap (λ (k : ℕ). getD xs k 0) (ap (λ (k : ℕ). k + from) e ∙ add-comm i from)
+    ∙ sym (getD-take n (drop from xs) i 0 l ∙ getD-drop from xs i 0) in
+    ap (λ (b : ℕ). set (placed xs 0 (take i text)) i b) read
+    ∙ ap (λ (k : ℕ). set (placed xs 0 (take i text)) k (getD text i 0)) (sym (zero-add i))
+    ∙ copied-one xs 0 text i (omega arith) (omega arith)
