@@ -4,12 +4,13 @@
 #
 #   oracle/choice.sh SOURCE compare 200000000 1
 #   oracle/choice.sh SOURCE speed
-#   oracle/choice.sh SOURCE sample 1
+#   oracle/choice.sh SOURCE sample 1 > crates/mc33/stdin
+#   oracle/choice.sh SOURCE text < crates/mc33/stdin > crates/mc33/stdout
 set -euo pipefail
 here="$PWD"
 cd "$(dirname "$0")/.."
 case "${1-}" in
-    compare | speed | sample | "") source=../shared/docs/src ;;
+    compare | speed | sample | input | text | "") source=../shared/docs/src ;;
     /*) source=$1; shift ;;
     *) source=$here/$1; shift ;;
 esac

@@ -1,4 +1,4 @@
-// Lower-case hex digits in a line of text, for the programs that replay a sample. Public: `pair`, `word`.
+// Lower-case hex digits in a line of text. Public: `pair`, `word`.
 ghost use mathlib.Core.Path.{_≡_};
 ghost use Prim.Native.Nat.{_+_, _≤_};
 ghost use lib.ListN.{length};

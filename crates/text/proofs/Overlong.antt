@@ -1,29 +1,20 @@
 -- A line longer than 81 bytes is refused, whatever comes. Assumes nothing.
-use mathlib.Core.Path.{_≡_, refl, ap, _∙_}
-use mathlib.Core.Bool.{Bool, true, false, cond, _&&_}
+use mathlib.Core.Path.{_≡_, refl, ap}
+use mathlib.Core.Bool.{Bool, true, false, cond}
 use mathlib.Core.List.{List, [], _∷_, _++_}
-use Prim.Native.Nat.{ℕ, suc, _≤_, _<_}
-use native.Mathlib.Nat.{le-of-suc-le-suc, not-suc-le-zero}
+use Prim.Native.Nat.{ℕ, suc, _≤_}
+use native.Mathlib.Nat.{not-suc-le-zero}
 use native.Mathlib.Omega.{arith}
 use lib.Dec.{eqb, leb}
 use lib.ListN.{length, length-append}
 use Rattle.line.proofs.Lengths.{long}
+use Rattle.answer.proofs.Same.{unequal-lengths}
 use Rattle.answer.specs.Answer.{Reply, answer, refusal, same, inputNames, outputNames, cubeReply, replyTo, refusedLine}
 use Rattle.text.specs.Run.{atEnd, follow, runFrom}
 
-and-false : (t : Bool) → (t && false) ≡ false
-and-false true = refl
-and-false false = refl
-
-longer : (xs ys : List ℕ) → length ys < length xs → same xs ys ≡ false
-unfolding same
-longer [] ys h = absurd (not-suc-le-zero h)
-longer (x ∷ xs) [] h = refl
-longer (x ∷ xs) (y ∷ ys) h = ap (λ (t : Bool). eqb x y && t) (longer xs ys (le-of-suc-le-suc h)) ∙ and-false (eqb x y)
-
 not-names : (line : List ℕ) → 82 ≤ length line → same line inputNames ≡ false
 unfolding inputNames
-not-names line h = longer line inputNames (omega arith)
+not-names line h = unequal-lengths line inputNames (λ (e : length line ≡ 35). omega arith)
 
 either : {A : Type 0} (t : Bool) {x y z : A} → x ≡ z → y ≡ z → cond t x y ≡ z
 either true p q = p

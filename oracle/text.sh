@@ -1,0 +1,30 @@
+#!/usr/bin/env bash
+# Builds the program mc33 and runs it, outside the gate:
+#
+#   oracle/text.sh inputs                 on the inputs of crates/mc33_inputs, through a pipe, at once and in
+#                                         one-byte writes
+#   oracle/text.sh SOURCE speed [BYTES]   against the plain Rust program of oracle/choice/text.rs, on a
+#                                         gigabyte of mixed cubes or on BYTES; SOURCE as for oracle/choice.sh
+set -euo pipefail
+here="$PWD"
+cd "$(dirname "$0")/.."
+case "${1-}" in
+    inputs | speed | "") source=../shared/docs/src ;;
+    /*) source=$1; shift ;;
+    *) source=$here/$1; shift ;;
+esac
+rt check mc33 >&2
+case "${1-}" in
+    inputs)
+        exec python3 oracle/text.py target/bin/mc33 crates/mc33_inputs/stdin
+        ;;
+    speed)
+        mkdir -p target/oracle
+        oracle/choice.sh "$source" input "${2-1000000000}" 1 > target/oracle/input
+        exec python3 oracle/throughput.py target/oracle/input target/bin/mc33 target/oracle/choice text
+        ;;
+    *)
+        echo "inputs | speed [BYTES]" >&2
+        exit 2
+        ;;
+esac
