@@ -98,7 +98,10 @@ pub fn handle_cube(case: i8, configuration: i8, q: Cube) -> Choice
         }
         Family::Known(k, c) => {
             if cube::all_finite(q) {
-                return families::choose(q, k, c);
+                if families::asks(k) {
+                    return families::choose(q, k, c);
+                }
+                return families::choose_plain(q, k, c);
             }
             Choice::Refused(Refusal::NotFinite)
         }
@@ -133,8 +136,13 @@ pub fn choose_tested(case: i8, configuration: i8, q: Cube) -> Choice
     ensures { λ r. ⌜ chosen r ≡ choiceOf case configuration q ⌝ }
 {
     match cube::take_apart(case) {
-        Split::NotBelow(k) => match cube::take_apart(configuration) {
-            Split::NotBelow(c) => families::choose(q, k, c),
+        Split::NotBelow(n) => match cube::take_apart(configuration) {
+            Split::NotBelow(c) => {
+                if families::asks(n) {
+                    return families::choose(q, n, c);
+                }
+                families::choose_plain(q, n, c)
+            }
             // case 0's
             Split::Below(_) => Choice::Empty,
         },

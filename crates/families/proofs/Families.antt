@@ -12,7 +12,7 @@ use Rattle.cube.proofs.Table.{agree}
 use Rattle.notes.specs.Notes.{noNotes}
 use Rattle.families.specs.Tilings.{configurations, tilingsOf, firstTiling, isOneOf, hasCentre}
 use Rattle.families.specs.Plan.{Chosen, tiling, run}
-use Rattle.families.specs.Plans.{plans, planOf}
+use Rattle.families.specs.Plans.{asking, plans, planOf}
 use Rattle.families.specs.Answers.{answersOf}
 
 module _ {case c : ℕ} where
@@ -59,27 +59,30 @@ unfolding firstTiling tilingsOf
 no-first zero h = refl
 no-first (suc k) h = sym (ap (λ (codes : List ℕ). getD codes 0 0) (List·getD-eq-default tilingsOf [] (past-all 14 (suc k) (omega arith) h)))
 
--- the cases that ask something, and case 0
-abbrev asking : List ℕ
-asking = 0 ∷ 3 ∷ 4 ∷ 6 ∷ 7 ∷ 10 ∷ 12 ∷ 13 ∷ []
+module _ (q : Cube) (c : ℕ) where
+  abbrev byPlan : ℕ → Chosen
+  byPlan case = run (answersOf q) (planOf case c) noNotes
 
-unasked : (q : Cube) (c k : ℕ) → k < 15
-    → cond (isOneOf k asking) (run (answersOf q) (planOf k c) noNotes) (tiling (firstTiling k) c 0 (hasCentre (firstTiling k)) noNotes) ≡ run (answersOf q) (planOf k c) noNotes
-unfolding run planOf plans firstTiling tilingsOf
-unasked q c k h =
-    agree (λ j. cond (isOneOf j asking) (run (answersOf q) (planOf j c) noNotes) (tiling (firstTiling j) c 0 (hasCentre (firstTiling j)) noNotes))
-    (λ j. run (answersOf q) (planOf j c) noNotes) 15 refl k h
+  abbrev byFirst : ℕ → Chosen
+  byFirst case = tiling (firstTiling case) c 0 (hasCentre (firstTiling case)) noNotes
 
-pub plainly : (q : Cube) (case c : ℕ) → c < getD configurations case 0
-    → (case ≡ 3 → ⊥) → (case ≡ 4 → ⊥) → (case ≡ 6 → ⊥) → (case ≡ 7 → ⊥) → (case ≡ 10 → ⊥) → (case ≡ 12 → ⊥) → (case ≡ 13 → ⊥)
-    → (code : ℕ) → code ≡ firstTiling case → tiling code c 0 (hasCentre code) noNotes ≡ run (answersOf q) (planOf case c) noNotes
-plainly q case c h n3 n4 n6 n7 n10 n12 n13 code e =
-    rw e
-    (sym (ap (λ (b : Bool). cond b (run (answersOf q) (planOf case c) noNotes) (tiling (firstTiling case) c 0 (hasCentre (firstTiling case)) noNotes)) none)
-    ∙ unasked q c case (of-a-case h))
-  where
-    nought : (case ≡ 0 → ⊥)
-    nought e = let l = positive h in omega (arith, l, e)
+  unasked : (k : ℕ) → k < 15 → cond (isOneOf k (0 ∷ asking)) (byPlan k) (byFirst k) ≡ byPlan k
+  unfolding run planOf plans firstTiling tilingsOf
+  unasked k h = agree (λ j. cond (isOneOf j (0 ∷ asking)) (byPlan j) (byFirst j)) byPlan 15 refl k h
 
-    none : isOneOf case asking ≡ false
-    none = rw (ne-eqb case 0 nought, ne-eqb case 3 n3, ne-eqb case 4 n4, ne-eqb case 6 n6, ne-eqb case 7 n7, ne-eqb case 10 n10, ne-eqb case 12 n12, ne-eqb case 13 n13)
+  -- a case of which c is a configuration is not case 0
+  pub plainly : (case : ℕ) → c < getD configurations case 0 → isOneOf case asking ≡ false
+      → (code : ℕ) → code ≡ firstTiling case → tiling code c 0 (hasCentre code) noNotes ≡ byPlan case
+  plainly case h n code e =
+      rw e (sym (ap (λ (b : Bool). cond b (byPlan case) (byFirst case)) none) ∙ unasked case (of-a-case h))
+    where
+      nought : (case ≡ 0 → ⊥)
+      nought e = let l = positive h in omega (arith, l, e)
+
+      none : isOneOf case (0 ∷ asking) ≡ false
+      none = rw (ne-eqb case 0 nought, n)
+
+pub not-asking : (case : ℕ) → (case ≡ 3 → ⊥) → (case ≡ 4 → ⊥) → (case ≡ 6 → ⊥) → (case ≡ 7 → ⊥) → (case ≡ 10 → ⊥) → (case ≡ 12 → ⊥) → (case ≡ 13 → ⊥)
+    → isOneOf case asking ≡ false
+not-asking case n3 n4 n6 n7 n10 n12 n13 =
+    rw (ne-eqb case 3 n3, ne-eqb case 4 n4, ne-eqb case 6 n6, ne-eqb case 7 n7, ne-eqb case 10 n10, ne-eqb case 12 n12, ne-eqb case 13 n13)

@@ -1,4 +1,4 @@
-mod Centres
+mod Bits
 mod Columns
 mod Controls
 pub mod Families

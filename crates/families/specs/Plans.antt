@@ -120,6 +120,10 @@ plan13 c =
 abbrev plain : ℕ → ℕ → Plan
 plain code c = tile code c 0
 
+-- the others
+abbrev pub asking : List ℕ
+asking = 3 ∷ 4 ∷ 6 ∷ 7 ∷ 10 ∷ 12 ∷ 13 ∷ []
+
 -- from case 0
 unfoldable pub plans : List (ℕ → Plan)
 plans =

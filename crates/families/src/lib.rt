@@ -1,12 +1,14 @@
 // The families of document 01, 'Choice': from a case and one of its configurations to the tiling. An
-// inner routine for the choice, which has tested the family and the cube. Public: `choose`.
+// inner routine for the choice, which has tested the family and the cube. Public: `choose`, and `asks` with
+// `choose_plain`, by which a caller spares a case that asks nothing the longer way.
 ghost use mathlib.Core.Path.{_≡_};
 ghost use Prim.Native.Nat.{_<_};
 ghost use lib.ListN.{getD};
 ghost use Rattle.notes.specs.Notes.{noNotes};
-ghost use Rattle.families.specs.Tilings.{configurations, firstTiling};
+ghost use mathlib.Core.Bool.{false};
+ghost use Rattle.families.specs.Tilings.{configurations, firstTiling, isOneOf};
 ghost use Rattle.families.specs.Plan.{run};
-ghost use Rattle.families.specs.Plans.{planOf};
+ghost use Rattle.families.specs.Plans.{asking, planOf};
 ghost use Rattle.families.specs.Answers.{answersOf, chosen};
 
 pub mod cases;
@@ -56,6 +58,26 @@ fn first_tiling(case: u8) -> u8
         14 => TILING_14,
         _ => 0,
     }
+}
+
+// A bit for each case that asks something.
+const ASKING: u32 = 0x34d8;
+
+pub fn asks(case: u8) -> bool
+    ensures { λ r. ⌜ r ≡ isOneOf case asking ⌝ }
+{
+    if 16 <= case {
+        return false;
+    }
+    (ASKING >> case) % 2 == 1
+}
+
+// The choice for a configuration of a case that asks nothing.
+pub fn choose_plain(q: Cube, case: u8, c: u8) -> Choice
+    requires { ⌜ (c < getD configurations case 0) × (isOneOf case asking ≡ false) ⌝ }
+    ensures { λ r. ⌜ chosen r ≡ run (answersOf q) (planOf case c) noNotes ⌝ }
+{
+    plain(first_tiling(case), c)
 }
 
 // The choice for a configuration of a case.

@@ -2,17 +2,19 @@
 use mathlib.Core.Path.{_≡_, refl, sym, ap, _∙_}
 use mathlib.Core.Bool.{Bool, true, false, _&&_, and-true, and-assoc}
 use mathlib.Core.List.{List, [], _∷_, map, foldr}
-use Prim.Native.Nat.{ℕ, _+_, _*_, _%_}
+use Prim.Native.Nat.{ℕ, zero, suc, _+_, _*_, _%_, _<_}
 use native.Mathlib.Nat.{mod-eq-of-lt}
+use native.Mathlib.Omega.{arith}
 use lib.Dec.{ltb}
 use lib.IntN.{ℤ}
-use lib.ListN.{getD}
+use lib.ListN.{length, getD}
 use borrow.Author.Tests.{ltb-true, eq-eqb, ne-eqb}
 use mir.Syntax.{w8}
 use mir.Val.{SFits, toZ, ofZ}
 use mir.ValLaws.{toZ-ofZ}
 use Rattle.cube.specs.declared.Cube.{Cube}
 use Rattle.cube.specs.Corners.{cube}
+use Rattle.cube.proofs.Table.{agree}
 use Rattle.hex.specs.Hex.{wordOf}
 use Rattle.hex.proofs.Digits.{first, second}
 use Rattle.line.specs.declared.Number.{Number}
@@ -49,6 +51,18 @@ in-turn bits =
 
 abbrev bits-in : List ℕ → List ℕ
 bits-in tail = map (cornerBits tail) (0 ∷ 1 ∷ 2 ∷ 3 ∷ 4 ∷ 5 ∷ 6 ∷ 7 ∷ [])
+
+each-low : (bits : List ℕ) → all-low bits ≡ true → (i : ℕ) → i < length bits → getD bits i 0 < 0x100000000
+each-low [] h i l = absurd (omega arith)
+each-low (b ∷ bits) h zero l = ltb-true b 0x100000000 (first (ltb b 0x100000000) (all-low bits) h)
+each-low (b ∷ bits) h (suc i) l = each-low bits (second (ltb b 0x100000000) (all-low bits) h) i (omega arith)
+
+-- each of a line's corners is a number of 32 bits
+pub each-corner : (tail : List ℕ) → haveCorners tail ≡ true → (k : ℕ) → k < 8 → cornerBits tail k < 0x100000000
+unfolding haveCorners
+each-corner tail h k l =
+    let same : getD (bits-in tail) k 0 ≡ cornerBits tail k = agree (λ i. getD (bits-in tail) i 0) (cornerBits tail) 8 refl k l in
+    rw same at (each-low (bits-in tail) h k l)
 
 given : (x y : ℤ) (tail bits : List ℕ) → bits ≡ bits-in tail → all-low bits ≡ true → Given x y (in-turn (low bits)) ≡ lineFrom (Is x) (Is y) tail
 unfolding lineFrom haveCorners cubeIn

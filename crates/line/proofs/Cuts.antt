@@ -1,13 +1,16 @@
 -- A line cut at its first space and before its last 72 bytes, as the code cuts it. Assumes nothing.
 use mathlib.Core.Path.{_≡_, refl, sym, ap, _∙_}
+use mathlib.Core.Bool.{Bool, true, false}
 use mathlib.Core.List.{List, [], _∷_}
 use Prim.Native.Nat.{ℕ, zero, suc, _+_, _-_, _≤_, _<_}
 use native.Mathlib.Nat.{zero-add}
 use native.Mathlib.Omega.{arith}
 use native.Mathlib.Numerals.{add-one}
-use lib.ListN.{length, take, drop, length-take, length-drop, drop-of-length-le}
+use lib.Dec.{eqb}
+use lib.ListN.{length, getD, take, drop, length-take, length-drop, drop-of-length-le}
 use lib.Seq.{take-all, take-take, take-nil}
-use Rattle.bytes.specs.Bytes.{indexOf, slice}
+use borrow.Author.Tests.{eqb-true}
+use Rattle.bytes.specs.Bytes.{indexOf, indexAfter, slice}
 use Rattle.line.specs.declared.Number.{Number}
 use Rattle.line.specs.declared.Number.the-variants.{Is, Broken}
 use Rattle.line.specs.declared.Line.{Line}
@@ -21,6 +24,19 @@ drop-take zero n l = let e : n - 0 ≡ n = omega arith in ap (λ k. take k l) (s
 drop-take (suc m) n [] = rw (take-nil n) (sym (take-nil (n - suc m)))
 drop-take (suc m) zero (x ∷ l) = let e : 0 - suc m ≡ 0 = omega arith in ap (λ k. take k (drop m l)) (sym e)
 drop-take (suc m) (suc n) (x ∷ l) = let e : suc n - suc m ≡ n - m = omega arith in rw e (drop-take m n l)
+
+-- what stands at the index of b is b
+module _ (b : ℕ) where
+  at-head : (x : ℕ) (rest : List ℕ) (t : Bool) → eqb x b ≡ t → (indexOf b rest < length rest → getD rest (indexOf b rest) 0 ≡ b)
+      → indexAfter t (indexOf b rest) < suc (length rest) → getD (x ∷ rest) (indexAfter t (indexOf b rest)) 0 ≡ b
+  unfolding indexAfter
+  at-head x rest true e f h = eqb-true x b e
+  at-head x rest false e f h = f (omega arith)
+
+  pub at-index : (xs : List ℕ) → indexOf b xs < length xs → getD xs (indexOf b xs) 0 ≡ b
+  unfolding indexOf
+  at-index [] h = absurd (omega arith)
+  at-index (x ∷ rest) h = at-head x rest (eqb x b) refl (at-index rest) h
 
 no-second : (case : Number) (tail : List ℕ) → lineFrom case Broken tail ≡ Malformed
 unfolding lineFrom

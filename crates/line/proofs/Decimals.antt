@@ -1,10 +1,10 @@
 -- A decimal by the tests that the code makes. `toZ w8` is how code reads the bits of a signed number. Assumes nothing.
 use mathlib.Core.Path.{_≡_, refl, sym, ap, subst, _∙_}
-use mathlib.Core.Bool.{Bool, true, false, cond, _&&_}
+use mathlib.Core.Bool.{true, false, cond, _&&_}
 use mathlib.Core.List.{List, [], _∷_}
 use Prim.Native.Nat.{ℕ, zero, suc, _+_, _-_, _≤_, _<_}
 use native.Mathlib.Omega.{arith}
-use lib.Dec.{eqb, leb}
+use lib.Dec.{leb}
 use lib.IntN.{pos, negsuc, _-ℤ_}
 use lib.ListN.{length, getD, take, drop, length-drop}
 use lib.Seq.{take-all}
@@ -90,11 +90,3 @@ pub nothing : (text : List ℕ) → length text ≡ 0 → Broken ≡ signedOf te
 unfolding signedOf wholeOf
 nothing [] h = refl
 nothing (b ∷ text) h = absurd (omega arith)
-
-broken-both : (b : Bool) → cond b Broken Broken ≡ Broken
-broken-both true = refl
-broken-both false = refl
-
-pub no-whole : (text : List ℕ) → wholeOf (drop 1 text) ≡ 1000 → wholeOf text ≡ 1000 → signedOf text ≡ Broken
-unfolding signedOf
-no-whole text e f = rw (e, f) (broken-both (eqb (getD text 0 0) 45))

@@ -1,11 +1,17 @@
 -- Digits as a number by the tests that the code makes, and what fits. Assumes nothing.
-use mathlib.Core.Path.{_≡_}
-use mathlib.Core.Bool.{Bool, true, false, _&&_}
+use mathlib.Core.Path.{_≡_, refl}
+use mathlib.Core.Bool.{Bool, true, false, cond, _&&_}
 use Prim.Native.Nat.{ℕ, _+_, _-_, _*_, _≤_, _<_}
+use native.Mathlib.Omega.{arith}
 use lib.Dec.{ltb}
 use borrow.Author.Tests.{ltb-true, lt-ltb, le-ltb}
 use Rattle.hex.proofs.Digits.{first, second, from-to}
 use Rattle.line.specs.Number.{decimalDigit, oneDigit, twoDigits, threeDigits}
+
+-- a value below the one that stands for none
+pub passed : (t : Bool) (x y : ℕ) → cond t x y < y → t ≡ true
+passed true x y h = refl
+passed false x y h = absurd (omega arith)
 
 module _ (b : ℕ) where
   pub a-digit : from-to 48 57 b ≡ true → b - 48 ≡ decimalDigit b
@@ -37,10 +43,13 @@ module _ (a b : ℕ) where
   unfolding twoDigits
   two-refused h = rw h
 
-  pub two-bounds : are-two ≡ true → (a < 10) × (b < 10)
+  pub two-bounds : are-two ≡ true → (0 < a) × (a < 10) × (b < 10)
   two-bounds h =
-      let g = first (ltb 0 a && ltb a 10) (ltb b 10) h in
-      (ltb-true a 10 (second (ltb 0 a) (ltb a 10) g), ltb-true b 10 (second (ltb 0 a && ltb a 10) (ltb b 10) h))
+      let g = first (ltb 0 a && ltb a 10) (ltb b 10) h in (
+        ltb-true 0 a (first (ltb 0 a) (ltb a 10) g),
+        ltb-true a 10 (second (ltb 0 a) (ltb a 10) g),
+        ltb-true b 10 (second (ltb 0 a && ltb a 10) (ltb b 10) h),
+      )
 
 module _ (a b c : ℕ) where
   abbrev pub are-three : Bool
@@ -54,7 +63,7 @@ module _ (a b c : ℕ) where
   unfolding threeDigits
   three-refused h = rw h
 
-  pub three-bounds : are-three ≡ true → (a < 10) × (b < 10) × (c < 10)
+  pub three-bounds : are-three ≡ true → (0 < a) × (a < 10) × (b < 10) × (c < 10)
   three-bounds h =
       let p = two-bounds a b (first (are-two a b) (ltb c 10) h) in
-      (p .0, p .1, ltb-true c 10 (second (are-two a b) (ltb c 10) h))
+      (p .0, p .1, p .2, ltb-true c 10 (second (are-two a b) (ltb c 10) h))

@@ -1,45 +1,53 @@
 -- Lines that are refused for their length alone. Assumes nothing.
-use mathlib.Core.Path.{_≡_, refl, sym, _∙_}
-use mathlib.Core.Logic.{⊎-elim}
-use mathlib.Core.List.{List}
-use Prim.Native.Nat.{ℕ, zero, suc, _-_, _≤_, _<_}
-use native.Mathlib.Nat.{eq-zero-or-pos}
+use mathlib.Core.Path.{_≡_, ap, _∙_}
+use mathlib.Core.Bool.{Bool, _&&_}
+use mathlib.Core.List.{List, _∷_, _++_}
+use Prim.Native.Nat.{ℕ, suc, _+_, _≤_, _<_}
 use native.Mathlib.Omega.{arith}
-use lib.ListN.{length, take, drop, length-take, length-drop}
-use Rattle.bytes.specs.Bytes.{indexOf}
-use Rattle.line.specs.declared.Number.the-variants.{Broken}
+use lib.Dec.{T, leb, leb→le, ltb→lt}
+use lib.Ieee.Fits.{and-l, and-r}
+use lib.IntN.{ℤ, pos, negsuc}
+use lib.ListN.{length, length-append}
+use Rattle.cube.proofs.Table.{under}
+use Rattle.put.specs.Decimal.{decimalIn, decimal}
 use Rattle.line.specs.declared.Line.the-variants.{Malformed}
-use Rattle.line.specs.Number.{wholeOf, signedOf}
 use Rattle.line.specs.Line.{parseLine}
-use Rattle.line.proofs.Decimals.{whole-of-other, nothing, no-whole}
-use Rattle.line.proofs.Cuts.{cut, is-cut, first-broken, second-broken}
+use Rattle.line.specs.Written.{inByte, signedText, hexText, corner, lineOf}
+use Rattle.line.proofs.OnlyWritten.{not-written}
 
-four-digits : (text : List ℕ) → 3 < length text → wholeOf text ≡ 1000
-four-digits text h = sym (whole-of-other text (λ e. omega arith) (λ e. omega arith) (λ e. omega arith))
+abbrev size : ℤ → ℕ
+size z = length (signedText z)
 
-pub five-bytes : (text : List ℕ) → 4 < length text → signedOf text ≡ Broken
-five-bytes text h = no-whole text (four-digits (drop 1 text) (omega (arith, length-drop 1 text))) (four-digits text (omega arith))
+abbrev one-to-four : ℤ → Bool
+one-to-four z = leb 1 (size z) && leb (size z) 4
+
+number-length : (z : ℤ) → T (inByte z) → T (one-to-four z)
+unfolding signedText decimal decimalIn
+number-length (pos n) h = under 128 (λ k. one-to-four (pos k)) tt n (ltb→lt n 128 h)
+number-length (negsuc n) h = under 128 (λ k. one-to-four (negsuc k)) tt n (ltb→lt n 128 h)
+
+number-bounds : (z : ℤ) → T (inByte z) → (1 ≤ size z) × (size z ≤ 4)
+number-bounds z h =
+    let t = number-length z h in
+    (leb→le 1 (size z) (and-l (leb 1 (size z)) (leb (size z) 4) t), leb→le (size z) 4 (and-r (leb 1 (size z)) (leb (size z) 4) t))
+
+line-length : (x y : ℤ) (a b c d e f g h : ℕ) → length (lineOf x y a b c d e f g h) ≡ size x + suc (size y) + 72
+unfolding lineOf hexText
+line-length x y a b c d e f g h =
+    length-append (signedText x ++ (32 ∷ signedText y)) (corner a ++ (corner b ++ (corner c ++ (corner d ++ (corner e ++ (corner f ++ (corner g ++ corner h)))))))
+    ∙ ap (λ n. n + 72) (length-append (signedText x) (32 ∷ signedText y))
 
 module _ (line : List ℕ) where
-  one-is-empty : (n k : ℕ) → n < 3 → cut line n k ≡ Malformed
-  one-is-empty n zero h = first-broken line n zero (sym (nothing (take zero (take n line)) refl))
-  one-is-empty n (suc k) h =
-      let rest = drop (suc (suc k)) (take n line) in
-      let none : length rest ≡ 0 = omega (arith, length-drop (suc (suc k)) (take n line), length-take n line) in
-      second-broken line n (suc k) (sym (nothing rest none))
-
-  one-is-long : (n k : ℕ) → 9 < n → n ≤ length line → cut line n k ≡ Malformed
-  one-is-long n k h l =
-      let head = length-take n line in
-      ⊎-elim
-      (λ (s : 5 - k ≡ 0). first-broken line n k (five-bytes (take k (take n line)) (omega (arith, length-take k (take n line)))))
-      (λ (s : 0 < 5 - k). second-broken line n k (five-bytes (drop (suc k) (take n line)) (omega (arith, length-drop (suc k) (take n line)))))
-      (eq-zero-or-pos (5 - k))
-
   -- two digits, a space and the corners are 75 bytes
   pub short : length line < 75 → parseLine line ≡ Malformed
-  short h = is-cut line ∙ one-is-empty (length line - 72) (indexOf 32 (take (length line - 72) line)) (omega arith)
+  short h =
+      not-written line (λ x y q w.
+      let l = ap length (w .1 .1 .0) ∙ line-length x y _ _ _ _ _ _ _ _ in
+      omega (arith, l, number-bounds x (w .0) .0, number-bounds y (w .1 .0) .0))
 
   -- two numbers as -128, a space and the corners are 81 bytes
   pub long : 81 < length line → parseLine line ≡ Malformed
-  long h = is-cut line ∙ one-is-long (length line - 72) (indexOf 32 (take (length line - 72) line)) (omega arith) (omega arith)
+  long h =
+      not-written line (λ x y q w.
+      let l = ap length (w .1 .1 .0) ∙ line-length x y _ _ _ _ _ _ _ _ in
+      omega (arith, l, number-bounds x (w .0) .1, number-bounds y (w .1 .0) .1))

@@ -2,8 +2,11 @@ mod Digits
 mod Decimals
 mod Corners
 mod Cuts
-pub mod Lengths
-pub mod Newlines
 mod WrittenDecimals
 mod WrittenWords
 pub mod RoundTrip
+mod ReadDecimals
+mod ReadWords
+pub mod OnlyWritten
+pub mod Lengths
+pub mod Newlines

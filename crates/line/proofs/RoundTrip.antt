@@ -3,11 +3,10 @@ use mathlib.Core.Path.{_≡_, refl, _∙_}
 use mathlib.Core.List.{List, [], _∷_, _++_}
 use Prim.Native.Nat.{ℕ, suc, _-_, _<_}
 use native.Mathlib.Omega.{arith}
+use lib.Dec.{T}
 use lib.IntN.{ℤ}
 use lib.ListN.{length, take, drop, length-append}
 use lib.Seq.{take-append-seam, drop-append-seam}
-use mir.Syntax.{w8}
-use mir.Val.{SFits}
 use borrow.Author.Tests.{lt-ltb}
 use Rattle.bytes.specs.Bytes.{indexOf}
 use Rattle.cube.specs.Corners.{cube}
@@ -15,7 +14,7 @@ use Rattle.line.specs.declared.Line.the-variants.{Given}
 use Rattle.line.specs.declared.Number.the-variants.{Is}
 use Rattle.line.specs.Number.{signedOf}
 use Rattle.line.specs.Line.{cornerBits, haveCorners, cubeIn, lineFrom, parseLine}
-use Rattle.line.specs.Written.{signedText, hexText, corner, lineOf}
+use Rattle.line.specs.Written.{inByte, signedText, hexText, corner, lineOf, WrittenBack}
 use Rattle.line.proofs.WrittenDecimals.{signed-back, first-space}
 use Rattle.line.proofs.WrittenWords.{word-back}
 
@@ -42,7 +41,7 @@ drop-past : (xs : List ℕ) (y : ℕ) (ys : List ℕ) → drop (suc (length xs))
 drop-past [] y ys = refl
 drop-past (x ∷ xs) y ys = drop-past xs y ys
 
-parse-head : (case configuration : ℤ) (tail : List ℕ) → SFits w8 case → SFits w8 configuration → length tail ≡ 72
+parse-head : (case configuration : ℤ) (tail : List ℕ) → T (inByte case) → T (inByte configuration) → length tail ≡ 72
     → parseLine (signedText case ++ (32 ∷ signedText configuration) ++ tail) ≡ lineFrom (Is case) (Is configuration) tail
 parse-head case configuration tail h k l =
     let xs = signedText case in
@@ -51,10 +50,7 @@ parse-head case configuration tail h k l =
     ∙ rw (first-space ys case h, take-append-seam xs (32 ∷ ys), drop-past xs 32 ys, signed-back case h, signed-back configuration k)
 
 -- ---- the round trip
-pub parse-written : (case configuration : ℤ) (a b c d e f g h : ℕ) → SFits w8 case → SFits w8 configuration
-    → a < 0x100000000 → b < 0x100000000 → c < 0x100000000 → d < 0x100000000
-    → e < 0x100000000 → f < 0x100000000 → g < 0x100000000 → h < 0x100000000
-    → parseLine (lineOf case configuration a b c d e f g h) ≡ Given case configuration (cube a b c d e f g h)
+pub parse-written : WrittenBack
 unfolding lineOf hexText cornerBits
 parse-written case configuration a b c d e f g h x y la lb lc ld le lf lg lh =
     let tail = corner a ++ (corner b ++ (corner c ++ (corner d ++ (corner e ++ (corner f ++ (corner g ++ corner h)))))) in

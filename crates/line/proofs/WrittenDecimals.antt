@@ -2,17 +2,16 @@
 use mathlib.Core.Path.{_≡_, refl}
 use mathlib.Core.List.{List, _∷_, _++_}
 use Prim.Native.Nat.{ℕ}
+use lib.Dec.{T, ltb→lt}
 use lib.IntN.{ℤ, pos, negsuc}
 use lib.ListN.{length}
-use mir.Syntax.{w8}
-use mir.Val.{SFits}
 use Rattle.bytes.specs.Bytes.{indexOf}
 use Rattle.cube.proofs.Table.{valuesOf, agree}
 use Rattle.put.specs.Decimal.{decimalIn, decimal}
 use Rattle.line.specs.declared.Number.{Number}
 use Rattle.line.specs.declared.Number.the-variants.{Is}
 use Rattle.line.specs.Number.{decimalDigit, oneDigit, twoDigits, threeDigits, wholeOf, signedOf}
-use Rattle.line.specs.Written.{signedText}
+use Rattle.line.specs.Written.{inByte, signedText}
 
 -- ---- its value: computed at every number
 read : ℤ → Number
@@ -26,10 +25,10 @@ below : valuesOf (λ n. read (negsuc n)) 128 ≡ valuesOf (λ n. Is (negsuc n)) 
 unfolding read signedOf signedText wholeOf oneDigit twoDigits threeDigits decimalDigit decimal decimalIn
 below = refl
 
-pub signed-back : (z : ℤ) → SFits w8 z → signedOf (signedText z) ≡ Is z
+pub signed-back : (z : ℤ) → T (inByte z) → signedOf (signedText z) ≡ Is z
 unfolding read
-signed-back (pos n) h = agree (λ k. read (pos k)) (λ k. Is (pos k)) 128 not-below n (h .sfits)
-signed-back (negsuc n) h = agree (λ k. read (negsuc k)) (λ k. Is (negsuc k)) 128 below n (h .sfits)
+signed-back (pos n) h = agree (λ k. read (pos k)) (λ k. Is (pos k)) 128 not-below n (ltb→lt n 128 h)
+signed-back (negsuc n) h = agree (λ k. read (negsuc k)) (λ k. Is (negsuc k)) 128 below n (ltb→lt n 128 h)
 
 -- ---- its end, whatever follows the space
 module _ (rest : List ℕ) where
@@ -47,7 +46,7 @@ module _ (rest : List ℕ) where
   unfolding space size indexOf signedText decimal decimalIn
   after-below = refl
 
-  pub first-space : (z : ℤ) → SFits w8 z → indexOf 32 (signedText z ++ 32 ∷ rest) ≡ length (signedText z)
+  pub first-space : (z : ℤ) → T (inByte z) → indexOf 32 (signedText z ++ 32 ∷ rest) ≡ length (signedText z)
   unfolding space size
-  first-space (pos n) h = agree (λ k. space (pos k)) (λ k. size (pos k)) 128 after-not-below n (h .sfits)
-  first-space (negsuc n) h = agree (λ k. space (negsuc k)) (λ k. size (negsuc k)) 128 after-below n (h .sfits)
+  first-space (pos n) h = agree (λ k. space (pos k)) (λ k. size (pos k)) 128 after-not-below n (ltb→lt n 128 h)
+  first-space (negsuc n) h = agree (λ k. space (negsuc k)) (λ k. size (negsuc k)) 128 after-below n (ltb→lt n 128 h)

@@ -3,7 +3,7 @@ use Prim.Native.Nat.{ℕ, _+_, _-_, _*_}
 use mathlib.Core.Bool.{cond, _&&_}
 use mathlib.Core.List.{List}
 use lib.Dec.{eqb, ltb, leb}
-use lib.IntN.{ℤ, pos, negsuc}
+use lib.IntN.{pos, negsuc}
 use lib.ListN.{length, getD, drop}
 use Rattle.line.specs.declared.Number.{Number}
 use Rattle.line.specs.declared.Number.the-variants.{Is, Broken}

@@ -9,6 +9,7 @@ ghost use lib.ListN.{length};
 ghost use Rattle.cube.specs.Corners.{cube};
 ghost use Rattle.line.specs.Number.{decimalDigit, oneDigit, twoDigits, threeDigits, wholeOf, signedOf};
 ghost use Rattle.line.specs.Line.{cornerBits, lineFrom, parseLine};
+ghost use Rattle.line.specs.Written.{WrittenBack, OnlyWritten};
 use cube::Cube;
 
 // A field as a number.
@@ -171,7 +172,9 @@ fn line_from(case: Number, configuration: Number, tail: &[u8]) -> Line
 // A line without its newline: its last 72 bytes are the corners, and what comes before is cut at its
 // first space.
 pub fn parse_line(line: &[u8]) -> Line
-    ensures { λ r. ⌜ r ≡ parseLine (now (line .entry)) ⌝ }
+    ensures line { λ r. ⌜ r ≡ parseLine (now (line .entry)) ⌝ }
+    ensures back { λ _. ⌜ WrittenBack ⌝ }
+    ensures only { λ _. ⌜ OnlyWritten ⌝ }
 {
     if line.len() < 72 {
         return Line::Malformed;

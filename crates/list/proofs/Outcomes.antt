@@ -32,15 +32,14 @@ last-holds true false c e = cc
 last-holds false b c e = cc
 
 module _ (xs : List Float) (ns : List ℤ) where
-  -- the test of refusal 6, as the code makes it
-  abbrev uneven : Bool
-  uneven = not (eqb (length xs % 8) 0 && eqb (length ns % 2) 0 && eqb (cubes xs) (length ns / 2))
+  -- the tests of refusal 6, as the code makes them
+  abbrev even : Bool
+  even = eqb (length xs % 8) 0 && eqb (length ns % 2) 0 && eqb (cubes xs) (length ns / 2)
 
-  pub enough : uneven ≡ false → 2 * cubes xs ≤ length ns
+  pub enough : not even ≡ false → 2 * cubes xs ≤ length ns
   enough e =
-      let same =
-      eqb-true (cubes xs) (length ns / 2)
-      (last-holds (eqb (length xs % 8) 0) (eqb (length ns % 2) 0) (eqb (cubes xs) (length ns / 2)) (is-true (eqb (length xs % 8) 0 && eqb (length ns % 2) 0 && eqb (cubes xs) (length ns / 2)) e)) in
+      let holds = last-holds (eqb (length xs % 8) 0) (eqb (length ns % 2) 0) (eqb (cubes xs) (length ns / 2)) (is-true even e) in
+      let same = eqb-true (cubes xs) (length ns / 2) holds in
       omega arith
 
   module _ (ys : List ℕ) where
@@ -59,23 +58,23 @@ module _ (xs : List Float) (ns : List ℤ) where
     unfolding resultOf
     tested b d e f = rw (sym e, sym f)
 
-    pub not-even : uneven ≡ true → Promised (refusedAt 6 0) ys
+    pub not-even : not even ≡ true → Promised (refusedAt 6 0) ys
     unfolding isEven
     not-even e =
         promised (refusedAt 6 0) ys
         (tested false (leb (4 * cubes xs) (length ys)) (is-false (isEven xs ns) e) refl)
         refl
 
-    module _ (even : uneven ≡ false) where
+    module _ (passed : not even ≡ false) where
       pub no-room : length ys < 4 * cubes xs → Promised (refusedAt 7 0) ys
       unfolding isEven
       no-room h =
-          promised (refusedAt 7 0) ys (tested true false (is-true (isEven xs ns) even) (lt-leb (4 * cubes xs) (length ys) h)) refl
+          promised (refusedAt 7 0) ys (tested true false (is-true (isEven xs ns) passed) (lt-leb (4 * cubes xs) (length ys) h)) refl
 
       module _ (room : 4 * cubes xs ≤ length ys) (o : Outcome) (e : result o ≡ firstFrom xs ns (cubes xs) 0) where
         first : firstFrom xs ns (cubes xs) 0 ≡ resultOf xs ns (length ys)
         unfolding isEven
-        first = tested true true (is-true (isEven xs ns) even) (le-leb (4 * cubes xs) (length ys) room)
+        first = tested true true (is-true (isEven xs ns) passed) (le-leb (4 * cubes xs) (length ys) room)
 
         pub none-refused : o ≡ Done → firstFrom xs ns (cubes xs) 0 ≡ done
         none-refused f = sym e ∙ ap result f

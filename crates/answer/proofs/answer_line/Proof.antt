@@ -79,7 +79,7 @@ returns-3 c =
     let told = c .before .before .before .before .before in
     let parsed = told .before .before in
     refusal-put _ _ _ _ _ _ _ _ _ _
-    (malformed-reply _ _ (parsed .before .if1 .left) _ (parsed .parse-line .ensures) (told .enum-told .given .1))
+    (malformed-reply _ _ (parsed .before .if1 .left) _ (parsed .parse-line .ensures .0) (told .enum-told .given .1))
     (c .before .before .before .put-refused2 .ensures)
     (c .refused2 .ensures)
 
@@ -98,7 +98,7 @@ returns-4 c =
     let told = chose .before .known-told .given in
     let given = chose .before .before in
     let parsed = given .before .before in
-    cube-answered _ _ (parsed .before .if1 .left) _ (parsed .parse-line .ensures) _ _ _ _ _
+    cube-answered _ _ (parsed .before .if1 .left) _ (parsed .parse-line .ensures .0) _ _ _ _ _
     (given .case .given .1)
     (toZ-ofZ w8 _ (sfits-of (told .0 .1)))
     (toZ-ofZ w8 _ (sfits-of (told .1 .0 .1)))

@@ -1,5 +1,5 @@
 -- `choice::handle_cube` chooses what `choiceOf` does, in the ranges; and the starred cubes.
-use mathlib.Core.Path.{_≡_, subst, sym}
+use mathlib.Core.Path.{_≡_, subst, sym, _∙_}
 use borrow.Author.Needs.{needs}
 use lib.Dec.{T}
 use lib.IntN.{ℤ}
@@ -35,23 +35,32 @@ enum-known-k c = search needs
 all-finite-requires-2 : tie.Need-all-finite-requires-2
 all-finite-requires-2 c κs = search needs
 
+asks-requires : tie.Need-asks-requires
+asks-requires c κs = search needs
+
 choose-requires : tie.Need-choose-requires
 choose-requires c κs = search one-of-its
 
 returns-2 : tie.Need-returns-2
 returns-2 c = promised _ _ _ _ (search by-plan)
 
+choose-plain-requires : tie.Need-choose-plain-requires
+choose-plain-requires c κs = (search one-of-its, sym (c .before .asks .ensures) ∙ c .if3 .left)
+
+returns-3 : tie.Need-returns-3
+returns-3 c = promised _ _ _ _ (search by-plan)
+
 enum-known-why : tie.Need-enum-known-why
 enum-known-why c = search needs
 
-returns-3 : tie.Need-returns-3
-returns-3 c = promised _ _ _ _ (search by-nothing-refused)
-
 returns-4 : tie.Need-returns-4
-returns-4 c = promised _ _ _ _ (search by-plan-refused)
+returns-4 c = promised _ _ _ _ (search by-nothing-refused)
 
 returns-5 : tie.Need-returns-5
-returns-5 c = promised _ _ _ _ (search by-refusal)
+returns-5 c = promised _ _ _ _ (search by-plan-refused)
+
+returns-6 : tie.Need-returns-6
+returns-6 c = promised _ _ _ _ (search by-refusal)
 
 pub handle-cube-spec : {M : Type 1} → statement M
 handle-cube-spec =
@@ -63,9 +72,12 @@ handle-cube-spec =
     returns
     enum-known-k
     all-finite-requires-2
+    asks-requires
     choose-requires
     returns-2
-    enum-known-why
+    choose-plain-requires
     returns-3
+    enum-known-why
     returns-4
-    returns-5)
+    returns-5
+    returns-6)

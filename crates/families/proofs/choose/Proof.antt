@@ -3,7 +3,7 @@ use mathlib.Core.Path.{_∙_}
 use borrow.Author.Needs.{needs}
 use Rattle.families.specs.Tilings.{configurations}
 use Rattle.families.specs.Plans.{plans, planOf}
-use Rattle.families.proofs.Families.{room, reached, plainly}
+use Rattle.families.proofs.Families.{room, reached, plainly, not-asking}
 use Rattle.families.proofs.choose.Statement.{statement}
 use Rattle.families.proofs.choose.Tie as tie
 
@@ -31,4 +31,6 @@ choose-spec =
     (λ c.
     let r = c .before .before .match .rest in
     c .plain .ensures
-    ∙ plainly _ _ _ (c .before .before .before .pre) (r .0 .0 .0 .0 .0 .0 .1) (r .0 .0 .0 .0 .0 .1) (r .0 .0 .0 .0 .1) (r .0 .0 .0 .1) (r .0 .0 .1) (r .0 .1) (r .1) _ (c .before .first-tiling .ensures)))
+    ∙ plainly _ _ _ (c .before .before .before .pre)
+    (not-asking _ (r .0 .0 .0 .0 .0 .0 .1) (r .0 .0 .0 .0 .0 .1) (r .0 .0 .0 .0 .1) (r .0 .0 .0 .1) (r .0 .0 .1) (r .0 .1) (r .1))
+    _ (c .before .first-tiling .ensures)))

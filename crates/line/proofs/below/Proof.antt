@@ -1,4 +1,4 @@
--- `line::below` gives -n, in the range.
+-- `line::below` gives -n, in the range. Assumes nothing.
 use Rattle.line.proofs.Decimals.{below-zero, below-taken, below-refused}
 use Rattle.line.proofs.below.Statement.{statement}
 use Rattle.line.proofs.below.Tie as tie

@@ -1,4 +1,4 @@
--- `line::corner_bits` is `cornerBits`.
+-- `line::corner_bits` is `cornerBits`. Assumes nothing.
 use borrow.Author.Needs.{needs}
 use Rattle.line.proofs.Corners.{after-space, no-space}
 use Rattle.line.proofs.corner_bits.Statement.{statement}

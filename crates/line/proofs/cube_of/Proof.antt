@@ -1,4 +1,4 @@
--- `line::cube_of` has the corners with these bits.
+-- `line::cube_of` has the corners with these bits. Assumes nothing.
 use borrow.Author.Needs.{needs}
 use Rattle.line.proofs.cube_of.Statement.{statement}
 use Rattle.line.proofs.cube_of.Tie as tie

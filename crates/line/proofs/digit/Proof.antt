@@ -1,4 +1,4 @@
--- `line::digit` is `decimalDigit`.
+-- `line::digit` is `decimalDigit`. Assumes nothing.
 use borrow.Author.Needs.{needs}
 use Rattle.hex.proofs.Digits.{not-before}
 use Rattle.line.proofs.Digits.{a-digit, no-digit}

@@ -1,4 +1,4 @@
--- `line::line_from` is `lineFrom`.
+-- `line::line_from` is `lineFrom`. Assumes nothing.
 use borrow.Author.Needs.{needs, sfits-of}
 use Rattle.line.proofs.Corners.{by-corners, by-no-corners, by-no-case, by-no-configuration}
 use Rattle.line.proofs.line_from.Statement.{statement}

@@ -1,4 +1,4 @@
--- `line::not_below` gives n, in the range.
+-- `line::not_below` gives n, in the range. Assumes nothing.
 use borrow.Author.Needs.{needs}
 use Rattle.line.proofs.Decimals.{not-below-taken, not-below-refused}
 use Rattle.line.proofs.not_below.Statement.{statement}

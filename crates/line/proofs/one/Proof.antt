@@ -1,4 +1,4 @@
--- `line::one` is `oneDigit`.
+-- `line::one` is `oneDigit`. Assumes nothing.
 use Rattle.line.proofs.Digits.{one-taken, one-refused}
 use Rattle.line.proofs.one.Statement.{statement}
 use Rattle.line.proofs.one.Tie as tie

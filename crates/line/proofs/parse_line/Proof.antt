@@ -1,12 +1,14 @@
--- `line::parse_line` is `parseLine`.
+-- `line::parse_line` is `parseLine`, which reads back what is written and nothing else. Assumes nothing.
 use borrow.Author.Needs.{needs}
 use mathlib.Core.Path.{refl}
 use Rattle.line.proofs.Cuts.{without-head, without-space, by-parts}
+use Rattle.line.proofs.RoundTrip.{parse-written}
+use Rattle.line.proofs.OnlyWritten.{only-written}
 use Rattle.line.proofs.parse_line.Statement.{statement}
 use Rattle.line.proofs.parse_line.Tie as tie
 
 returns : tie.Need-returns
-returns c = without-head _ (c .if1 .taken)
+returns c = (without-head _ (c .if1 .taken), (parse-written, only-written))
 
 sub-n : tie.Need-sub-n
 sub-n c = search needs
@@ -15,7 +17,7 @@ find-requires : tie.Need-find-requires
 find-requires c κs = search needs
 
 returns-2 : tie.Need-returns-2
-returns-2 c = without-space _ _ (c .before .find .ensures .0) (c .if2 .taken)
+returns-2 c = (without-space _ _ (c .before .find .ensures .0) (c .if2 .taken), (parse-written, only-written))
 
 add-from : tie.Need-add-from
 add-from c = search needs
@@ -61,7 +63,7 @@ returns-3 c =
     let b = c .before .before in
     let a = b .before .before in
     let f = a .before .before .before in
-    by-parts _ _ (f .find .ensures .0) (f .find .ensures .1) (a .signed .ensures) (b .signed2 .ensures) refl (c .line-from .ensures)
+    (by-parts _ _ (f .find .ensures .0) (f .find .ensures .1) (a .signed .ensures) (b .signed2 .ensures) refl (c .line-from .ensures), (parse-written, only-written))
 
 pub parse-line-spec : {M : Type 1} → statement M
 parse-line-spec =

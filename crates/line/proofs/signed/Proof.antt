@@ -1,4 +1,4 @@
--- `line::signed` is `signedOf`.
+-- `line::signed` is `signedOf`. Assumes nothing.
 use borrow.Author.Needs.{needs}
 use Rattle.line.proofs.Decimals.{nothing, minus-first, no-minus}
 use Rattle.line.proofs.signed.Statement.{statement}

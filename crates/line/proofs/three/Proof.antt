@@ -1,4 +1,4 @@
--- `line::three` is `threeDigits`.
+-- `line::three` is `threeDigits`. Assumes nothing.
 use native.Mathlib.Omega.{arith}
 use Rattle.line.proofs.Digits.{three-taken, three-refused, three-bounds}
 use Rattle.line.proofs.three.Statement.{statement}

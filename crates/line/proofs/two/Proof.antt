@@ -1,4 +1,4 @@
--- `line::two` is `twoDigits`.
+-- `line::two` is `twoDigits`. Assumes nothing.
 use native.Mathlib.Omega.{arith}
 use Rattle.line.proofs.Digits.{two-taken, two-refused, two-bounds}
 use Rattle.line.proofs.two.Statement.{statement}

@@ -1,4 +1,4 @@
--- `line::whole` is `wholeOf`.
+-- `line::whole` is `wholeOf`. Assumes nothing.
 use borrow.Author.Needs.{needs}
 use Rattle.line.proofs.Decimals.{whole-of-one, whole-of-two, whole-of-three, whole-of-other}
 use Rattle.line.proofs.whole.Statement.{statement}

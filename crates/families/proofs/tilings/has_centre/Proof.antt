@@ -1,6 +1,6 @@
 -- `families::tilings::has_centre` is `hasCentre`.
 use borrow.Author.Needs.{needs}
-use Rattle.families.proofs.Centres.{below-64, from-64}
+use Rattle.families.proofs.Bits.{below-64, from-64}
 use Rattle.families.proofs.tilings.has_centre.Statement.{statement}
 use Rattle.families.proofs.tilings.has_centre.Tie as tie
 
