@@ -3,7 +3,7 @@
 // to the front, so memory does not grow with the input. What is answered is `text`'s; here is what reads,
 // writes and keeps.
 ghost use mathlib.Core.Path.{_≡_};
-ghost use mathlib.Core.Bool.{false};
+ghost use mathlib.Core.Bool.{true, false};
 ghost use Prim.Native.Nat.{_+_, _≤_};
 ghost use lib.ListN.{length, take};
 ghost use Rattle.text.specs.Block.{blockOf};
@@ -17,6 +17,17 @@ struct State {
     have: usize,
     number: u64,
     going: bool,
+}
+
+// Nothing is kept, and line 1 is to come.
+fn begun() -> State
+    ensures { λ r. ⌜ (r .have ≡ 0) × ((r .number ≡ 1) × (r .going ≡ true)) ⌝ }
+{
+    State {
+        have: 0,
+        number: 1,
+        going: true,
+    }
 }
 
 fn stopped() -> State
@@ -93,11 +104,7 @@ fn turn(state: State, buf: &mut [u8], out: &mut [u8]) -> State
 fn main() {
     let mut buf = [0u8; 65536];
     let mut out = [0u8; 65664];
-    let mut state = State {
-        have: 0,
-        number: 1,
-        going: true,
-    };
+    let mut state = begun();
     let mut turns = u64::MAX;
     while turns > 0 && state.going {
         state = turn(state, &mut buf, &mut out);

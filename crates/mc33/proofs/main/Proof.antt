@@ -2,6 +2,7 @@
 use mathlib.Core.Path.{_≡_, refl, sym}
 use Prim.Native.Nat.{ℕ, _≤_}
 use native.Mathlib.Omega.{arith}
+use borrow.Author.Needs.{needs}
 use lib.ListN.{length, length-replicate}
 use Rattle.mc33.proofs.main.Statement.{statement}
 use Rattle.mc33.proofs.main.Tie as tie
@@ -11,6 +12,9 @@ Inv-loop buf₀ out₀ state₀ turns₀ buf out state turns = (length buf ≡ 6
 
 abbrev μ-loop : tie.MeasureT-loop
 μ-loop buf₀ out₀ state₀ turns₀ buf out state turns = turns
+
+begun-requires : tie.Need-begun-requires Inv-loop μ-loop
+begun-requires c κs = search needs
 
 loop-holds : tie.Need-loop-holds Inv-loop μ-loop
 loop-holds c = (length-replicate {A = ℕ} 65536 0, (length-replicate {A = ℕ} 65664 0, omega arith))
@@ -45,6 +49,7 @@ main-spec =
     (tie.spec
     Inv-loop
     μ-loop
+    begun-requires
     loop-holds
     slice-aggregate-turn
     slice-aggregate-turn-2
