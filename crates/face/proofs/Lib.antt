@@ -1,8 +1,6 @@
-pub mod Agreement
 mod Columns
 mod Controls
-mod Decision
+pub mod Decision
 pub mod Laws
-mod Meetings
 pub mod Places
 mod Ties

@@ -1,4 +1,3 @@
 pub mod Columns
 pub mod Face
 pub mod Laws
-pub mod Meeting

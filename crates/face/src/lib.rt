@@ -1,14 +1,12 @@
 // The face test: document 01, 'Face test'. Public: `test_face`, which refuses, and `face_answer`, the
-// rule alone, for callers that have tested their cube and face; `place`, the face without its sign.
+// rule alone, for callers that have tested their cube and face; `place`, the face without its sign, and
+// `square_of`, the values at its corners.
 ghost use mathlib.Core.Path.{_≡_};
 ghost use lib.IntN.{natAbs};
 ghost use Rattle.binary32.specs.Numbers.{f32};
 ghost use Rattle.face.specs.Face.{rule, faceOf, said, testFaceOf};
 ghost use Rattle.face.specs.Columns.{placeOf, squareOf};
 ghost use Rattle.face.specs.Laws.{FaceLawsAt};
-
-pub mod meeting;
-
 use cube::Cube;
 use cube::Face;
 use cube::Refusal;
@@ -21,7 +19,7 @@ pub enum FaceAnswer {
 }
 
 // The values at the corners of a face, in the face's order.
-struct Square {
+pub struct Square {
     pub a: f32,
     pub b: f32,
     pub c: f32,
@@ -68,7 +66,7 @@ fn join(face: Face, a: f32, b: f32, c: f32, d: f32) -> bool
 }
 
 // The values at the face's corners.
-fn square_of(q: Cube, face: Face) -> Square
+pub fn square_of(q: Cube, face: Face) -> Square
     ensures { λ r. ⌜ r ≡ squareOf q (face .0) ⌝ }
 {
     let values = cube::values(q);

@@ -4,7 +4,7 @@ use cube::Cube;
 use cube::Face;
 use cube::Refusal;
 use face::FaceAnswer;
-use face::meeting::Compared;
+use meeting::Compared;
 
 fn print_answer(yes: bool) {
     if yes {
@@ -56,7 +56,7 @@ fn test(q: Cube, n: i8) {
 }
 
 fn compare(k: Cube, n: i8, l: Cube, p: i8) {
-    match face::meeting::compare_faces(k, Face(n), l, Face(p)) {
+    match meeting::compare_faces(k, Face(n), l, Face(p)) {
         Compared::Equal(yes) => print_answer(yes),
         Compared::Apart => {
             io::write_all(1, b"apart\n");

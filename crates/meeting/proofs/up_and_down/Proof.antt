@@ -1,8 +1,8 @@
 -- `meeting::up_and_down` is `upAndDown`.
 use borrow.Author.Needs.{needs}
 use Rattle.face.specs.Laws.{upAndDown}
-use Rattle.face.proofs.meeting.up_and_down.Statement.{statement}
-use Rattle.face.proofs.meeting.up_and_down.Tie as tie
+use Rattle.meeting.proofs.up_and_down.Statement.{statement}
+use Rattle.meeting.proofs.up_and_down.Tie as tie
 
 ranged-requires : tie.Need-ranged-requires
 ranged-requires c κs = search needs

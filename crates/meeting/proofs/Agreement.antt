@@ -14,10 +14,10 @@ use Rattle.binary32.proofs.Bools.{either, all-four, beq-true}
 use Rattle.binary32.proofs.Same.{Same, eq→same}
 use Rattle.cube.specs.declared.Cube.{Cube}
 use Rattle.cube.specs.Corners.{cornerOf}
 use Rattle.face.specs.Face.{faceCorners, faceCorner, rule, faceBy, faceOf, isFace, isPositive}
 use Rattle.face.specs.Laws.{alternate}
-use Rattle.face.specs.Meeting.{valuesAt, sameValues, meetAt, others-of-1, others-of-2, others-of-5, meet, alternateAt, joined, FacesAgree}
 use Rattle.face.proofs.Decision.{Square, square, has-size, turned, rule-same, kept, decided, kept-turned}
+use Rattle.meeting.specs.Meeting.{valuesAt, sameValues, meetAt, others-of-1, others-of-2, others-of-5, meet, alternateAt, joined, FacesAgree}
 
 -- ---- two answers by one Bool of the values
 cancel : (s p q : Bool) → Bool·beq (Bool·beq p s) (Bool·beq q s) ≡ Bool·beq p q

@@ -1,7 +1,7 @@
 -- `meeting::meets` is `meet`.
-use Rattle.face.proofs.Meetings.{by-one, by-two, by-five, by-none}
-use Rattle.face.proofs.meeting.meets.Statement.{statement}
-use Rattle.face.proofs.meeting.meets.Tie as tie
+use Rattle.meeting.proofs.Meetings.{by-one, by-two, by-five, by-none}
+use Rattle.meeting.proofs.meets.Statement.{statement}
+use Rattle.meeting.proofs.meets.Tie as tie
 
 returns : tie.Need-returns
 returns c = by-one _ _ _ _ (c .before .before .before .before .before .before .before .before .match .keys1)

@@ -1,8 +1,8 @@
 -- `meeting::compare_faces` says what `comparedOf` does, and term 3 holds of it.
 use borrow.Author.Needs.{needs}
-use Rattle.face.proofs.Meetings.{no-face, not-finite, equal-told, apart-told}
-use Rattle.face.proofs.meeting.compare_faces.Statement.{statement}
-use Rattle.face.proofs.meeting.compare_faces.Tie as tie
+use Rattle.meeting.proofs.Meetings.{no-face, not-finite, equal-told, apart-told}
+use Rattle.meeting.proofs.compare_faces.Statement.{statement}
+use Rattle.meeting.proofs.compare_faces.Tie as tie
 
 place-requires : tie.Need-place-requires
 place-requires c κs = search needs

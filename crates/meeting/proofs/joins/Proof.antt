@@ -1,8 +1,8 @@
 -- `meeting::joins` tests the premises of term 3.
 use borrow.Author.Needs.{needs}
-use Rattle.face.proofs.Meetings.{premises}
-use Rattle.face.proofs.meeting.joins.Statement.{statement}
-use Rattle.face.proofs.meeting.joins.Tie as tie
+use Rattle.meeting.proofs.Meetings.{premises}
+use Rattle.meeting.proofs.joins.Statement.{statement}
+use Rattle.meeting.proofs.joins.Tie as tie
 
 place-requires : tie.Need-place-requires
 place-requires c κs = search needs

@@ -13,10 +13,10 @@ use lib.Ieee.{Float, eq}
 use Rattle.cube.specs.declared.Cube.{Cube}
 use Rattle.cube.specs.Corners.{cornerOf, allFinite}
 use Rattle.cube.specs.Refusals.{refusalNumber}
-use Rattle.face.specs.declared.meeting.Compared.{Compared}
-use Rattle.face.specs.declared.meeting.Compared.the-variants.{Equal, Apart, Refused}
 use Rattle.face.specs.Face.{faceCorners, faceCorner, faceOf, isFace, isPositive}
 use Rattle.face.specs.Laws.{alternate}
+use Rattle.meeting.specs.declared.Compared.{Compared}
+use Rattle.meeting.specs.declared.Compared.the-variants.{Equal, Apart, Refused}
 
 -- a cube's values at some corners
 abbrev pub valuesAt : Cube → List ℕ → List Float

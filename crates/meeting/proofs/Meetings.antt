@@ -13,14 +13,14 @@ use Rattle.binary32.proofs.Bools.{either, beq-true}
 use Rattle.cube.specs.declared.Cube.{Cube}
 use Rattle.cube.specs.declared.Refusal.the-variants.{NoFace, NotFinite}
 use Rattle.cube.specs.Corners.{corners, valueAt, cornerOf, allFinite}
 use Rattle.face.specs.declared.Square.{Square}
 use Rattle.face.specs.Columns.{placeOf, squareOf}
 use Rattle.face.specs.Face.{faceCorners, faceOf, isFace, isPositive}
 use Rattle.face.specs.Laws.{alternate}
-use Rattle.face.specs.declared.meeting.Compared.the-variants.{Equal, Apart, Refused}
-use Rattle.face.specs.Meeting.{sameValues, meetAt, meet, alternateAt, joined, equal, apart, refused, comparedOf, AgreeBySign}
-use Rattle.face.proofs.Agreement.{faces-agree}
 use Rattle.face.proofs.Places.{face-place, face-size}
+use Rattle.meeting.specs.declared.Compared.the-variants.{Equal, Apart, Refused}
+use Rattle.meeting.specs.Meeting.{sameValues, meetAt, meet, alternateAt, joined, equal, apart, refused, comparedOf, AgreeBySign}
+use Rattle.meeting.proofs.Agreement.{faces-agree}
 
 module _ (k : Cube) (n : ℕ) (l : Cube) (p : ℕ) where
   pub by-one : n ≡ 1 → eqb p 3 && eq (k .c0) (l .c3) && eq (k .c4) (l .c7) && eq (k .c5) (l .c6) && eq (k .c1) (l .c2) ≡ meet k n l p

@@ -1,16 +1,16 @@
-// Term 3: two cubes that meet at a face. Public: `compare_faces`.
+// Term 3, two cubes that meet at a face: document 01, 'Face test'. Public: `compare_faces`, which refuses.
 ghost use mathlib.Core.Path.{_≡_};
 ghost use mathlib.Core.Bool.{_&&_};
 ghost use Rattle.face.specs.Columns.{placeOf};
 ghost use Rattle.face.specs.Laws.{inRange, upAndDown, alternate};
-ghost use Rattle.face.specs.Meeting.{meet, alternateAt, said, comparedOf, AgreeBySign};
-use crate::Square;
-use crate::face_answer;
-use crate::place;
-use crate::square_of;
+ghost use Rattle.meeting.specs.Meeting.{meet, alternateAt, said, comparedOf, AgreeBySign};
 use cube::Cube;
 use cube::Face;
 use cube::Refusal;
+use face::Square;
+use face::face_answer;
+use face::place;
+use face::square_of;
 
 // What the comparison of two faces says: whether the answers are equal, or that the faces do not meet
 // with the same alternating values in range.

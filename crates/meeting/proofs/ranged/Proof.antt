@@ -1,9 +1,9 @@
 -- `meeting::ranged` is `inRange`.
 use mathlib.Core.Path.{refl}
 use lib.Ieee.{ofBits}
 use Rattle.face.specs.Laws.{inRange}
-use Rattle.face.proofs.meeting.ranged.Statement.{statement}
-use Rattle.face.proofs.meeting.ranged.Tie as tie
+use Rattle.meeting.proofs.ranged.Statement.{statement}
+use Rattle.meeting.proofs.ranged.Tie as tie
 
 returns : tie.Need-returns
 unfolding inRange ofBits

@@ -1,8 +1,8 @@
 -- `meeting::alternates` is `alternate`.
 use borrow.Author.Needs.{needs}
 use Rattle.face.specs.Laws.{alternate}
-use Rattle.face.proofs.meeting.alternates.Statement.{statement}
-use Rattle.face.proofs.meeting.alternates.Tie as tie
+use Rattle.meeting.proofs.alternates.Statement.{statement}
+use Rattle.meeting.proofs.alternates.Tie as tie
 
 up-and-down-requires : tie.Need-up-and-down-requires
 up-and-down-requires c κs = search needs

@@ -1,0 +1,3 @@
+pub mod Agreement
+mod Controls
+mod Meetings
