@@ -9,8 +9,8 @@ use lib.IntN.{ℤ}
 use lib.ListN.{length}
 use borrow.Author.Tests.{le-leb, lt-leb, leb-true, leb-false}
 use Rattle.cube.specs.declared.Cube.{Cube}
-use Rattle.families.specs.declared.Choice.{Choice}
-use Rattle.families.specs.Answers.{chosen}
+use Rattle.tilings.specs.declared.Choice.{Choice}
+use Rattle.tilings.specs.Answers.{chosen}
 use Rattle.choice.specs.Choice.{choiceOf}
 use Rattle.line.specs.declared.Line.{Line}
 use Rattle.line.specs.declared.Line.the-variants.{Given, Malformed}

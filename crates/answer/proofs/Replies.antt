@@ -9,10 +9,10 @@ use mir.Val.{boolByte}
 use Rattle.cube.specs.declared.Refusal.{Refusal}
 use Rattle.cube.specs.Refusals.{refusalNumber}
 use Rattle.cube.proofs.Bounds.{bit-bound}
-use Rattle.families.specs.declared.Choice.{Choice}
-use Rattle.families.specs.declared.Choice.the-variants.{Empty, Untiled, Tiled, Refused}
-use Rattle.families.specs.declared.Tiling.{Tiling}
-use Rattle.families.specs.Answers.{chosen}
+use Rattle.tilings.specs.declared.Choice.{Choice}
+use Rattle.tilings.specs.declared.Choice.the-variants.{Empty, Untiled, Tiled, Refused}
+use Rattle.tilings.specs.declared.Tiling.{Tiling}
+use Rattle.tilings.specs.Answers.{chosen}
 use Rattle.put.specs.Placed.{placed}
 use Rattle.answer.specs.Answer.{Reply, answer, refusal, fields, refusedLine, choiceReply, printed, ends}
 

@@ -5,7 +5,7 @@ use mathlib.Core.List.{List, [], _∷_, _++_}
 use lib.Dec.{eqb, leb}
 use lib.ListN.{length}
 use Rattle.cube.specs.Bits.{bitOf}
-use Rattle.families.specs.Plan.{Chosen, empty, noTiling, tiling, refused}
+use Rattle.tilings.specs.Plan.{Chosen, empty, noTiling, tiling, refused}
 use Rattle.choice.specs.Choice.{choiceOf}
 use Rattle.put.specs.Decimal.{decimal}
 use Rattle.line.specs.declared.Line.{Line}

@@ -6,12 +6,12 @@ ghost use mathlib.Core.Bool.{true, false};
 ghost use mathlib.Core.List.{[], _∷_, _++_};
 ghost use Prim.Native.Nat.{_+_, _≤_};
 ghost use lib.ListN.{length};
-ghost use Rattle.families.specs.Answers.{chosen};
+ghost use Rattle.tilings.specs.Answers.{chosen};
 ghost use Rattle.put.specs.Placed.{placed};
 ghost use Rattle.put.specs.Decimal.{decimal};
 ghost use Rattle.answer.specs.Answer.{same, inputNames, fields, refusedLine, choiceReply, replyTo, printed, ends};
-use families::Choice;
 use line::Line;
+use tilings::Choice;
 
 // The place after what was printed, and whether it was a refusal.
 pub struct Printed {

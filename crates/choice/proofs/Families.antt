@@ -20,11 +20,11 @@ use Rattle.cube.specs.Corners.{allFinite}
 use Rattle.cube.specs.declared.Refusal.{Refusal}
 use Rattle.cube.specs.Refusals.{refusalNumber}
 use Rattle.notes.specs.Notes.{noNotes}
-use Rattle.families.specs.Tilings.{configurations}
-use Rattle.families.specs.Plan as Plan
-use Rattle.families.specs.Plan.{Chosen, empty, run}
+use Rattle.tilings.specs.Tilings.{configurations}
+use Rattle.tilings.specs.Plan as Plan
+use Rattle.tilings.specs.Plan.{Chosen, empty, run}
+use Rattle.tilings.specs.Answers.{answersOf}
 use Rattle.families.specs.Plans.{plans, planOf}
-use Rattle.families.specs.Answers.{answersOf}
 use Rattle.families.proofs.Families.{NoneUnder, past-all}
 use Rattle.choice.specs.Choice.{isCase, natOf, choiceOf, refusalOf}
 use Rattle.choice.specs.declared.Family.{Family}

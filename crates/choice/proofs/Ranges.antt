@@ -17,11 +17,15 @@ use Rattle.notes.specs.Notes.{noNotes, added}
 use Rattle.interior.specs.Interior as Interior
 use Rattle.interior.specs.Interior.{Look, seen, counted}
 use Rattle.interior.proofs.Bounds.{inside-bound}
-use Rattle.families.specs.Tables.{«TEST_3», «TEST_4», «TEST_6», «TEST_7», «TEST_10», «TEST_12», «TEST_13», «SUB_CONFIG_13»}
-use Rattle.families.specs.Tilings.{configurations, tilingsOf, columnsOf, isOneOf, hasCentre}
-use Rattle.families.specs.Plan.{Plan, nothing, untiled, tile, ask, face, inside, inside13, askInTurn, Answers, Chosen, empty, noTiling, tiling, refused, settled, run}
-use Rattle.families.specs.Plans.{plan3, plan4, plan6, part7, plan7, twoFaces, plan10, plan12, parts13, lastFrom, tile13, part13, plan13, plans, planOf}
-use Rattle.families.specs.Answers.{answersOf}
+use Rattle.tilings.specs.Tilings.{configurations, tilingsOf, columnsOf, isOneOf, hasCentre}
+use Rattle.tilings.specs.Plan.{Plan, nothing, untiled, tile, ask, face, inside, inside13, askInTurn, Answers, Chosen, empty, noTiling, tiling, refused, settled, run}
+use Rattle.tilings.specs.Answers.{answersOf}
+use Rattle.two_faces.specs.Tables.{«TEST_10», «TEST_12»}
+use Rattle.two_faces.specs.Plans.{twoFaces, plan10, plan12}
+use Rattle.family_13.specs.Tables.{«TEST_13», «SUB_CONFIG_13»}
+use Rattle.family_13.specs.Plans.{parts13, lastFrom, tile13, part13, plan13}
+use Rattle.families.specs.Tables.{«TEST_3», «TEST_4», «TEST_6», «TEST_7»}
+use Rattle.families.specs.Plans.{plan3, plan4, plan6, part7, plan7, plans, planOf}
 use Rattle.families.proofs.Families.{of-a-case}
 use Rattle.choice.specs.Choice.{natOf, choiceOf, refusalOf, unsettledIn}
 use Rattle.choice.specs.Ranges.{readings, inRanges}

@@ -16,10 +16,10 @@ use Rattle.cube.specs.Signs.{splitValue}
 use Rattle.cube.proofs.Signs.{taken}
 use Rattle.cube.specs.Corners.{allFinite}
 use Rattle.notes.specs.Notes.{noNotes}
-use Rattle.families.specs.Tilings.{configurations}
-use Rattle.families.specs.Plan.{Chosen, empty, refused, run}
+use Rattle.tilings.specs.Tilings.{configurations}
+use Rattle.tilings.specs.Plan.{Chosen, empty, refused, run}
+use Rattle.tilings.specs.Answers.{answersOf}
 use Rattle.families.specs.Plans.{planOf}
-use Rattle.families.specs.Answers.{answersOf}
 use Rattle.choice.specs.Choice.{choiceOf, refusalOf}
 use Rattle.choice.proofs.Families.{no-plan}
 

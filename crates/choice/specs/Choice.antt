@@ -7,10 +7,10 @@ use lib.ListN.{getD}
 use Rattle.cube.specs.declared.Cube.{Cube}
 use Rattle.cube.specs.Corners.{allFinite}
 use Rattle.notes.specs.Notes.{noNotes}
-use Rattle.families.specs.Tilings.{configurations}
-use Rattle.families.specs.Plan.{Chosen, empty, noTiling, tiling, refused, run}
+use Rattle.tilings.specs.Tilings.{configurations}
+use Rattle.tilings.specs.Plan.{Chosen, empty, noTiling, tiling, refused, run}
+use Rattle.tilings.specs.Answers.{answersOf}
 use Rattle.families.specs.Plans.{planOf}
-use Rattle.families.specs.Answers.{answersOf}
 
 -- 0 to 14
 abbrev pub isCase : ℤ → Bool

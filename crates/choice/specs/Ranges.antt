@@ -4,8 +4,8 @@ use mathlib.Core.Bool.{Bool, Bool·beq, _&&_}
 use mathlib.Core.List.{List, [], _∷_}
 use lib.Dec.{eqb, ltb, leb}
 use lib.ListN.{getD}
-use Rattle.families.specs.Tilings.{configurations, tilingsOf, isOneOf, columnsOf, hasCentre}
-use Rattle.families.specs.Plan.{Chosen, empty, noTiling, tiling, refused}
+use Rattle.tilings.specs.Tilings.{configurations, tilingsOf, isOneOf, columnsOf, hasCentre}
+use Rattle.tilings.specs.Plan.{Chosen, empty, noTiling, tiling, refused}
 
 -- how many edge readings a choice for each case makes at most, from case 0
 unfoldable pub readings : List ℕ

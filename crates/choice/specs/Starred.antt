@@ -6,8 +6,8 @@ use mathlib.Core.List.{List, [], _∷_, map}
 use lib.IntN.{pos}
 use Rattle.cube.specs.declared.Cube.{Cube}
 use Rattle.cube.specs.Corners.{cube}
-use Rattle.families.specs.Tilings.{«TILING_3_1», «TILING_3_2», «TILING_4_1», «TILING_4_2», «TILING_7_4_2», «TILING_10_1_2», «TILING_13_1», «TILING_13_1_»}
-use Rattle.families.specs.Plan.{Chosen, tiling}
+use Rattle.tilings.specs.Tilings.{«TILING_3_1», «TILING_3_2», «TILING_4_1», «TILING_4_2», «TILING_7_4_2», «TILING_10_1_2», «TILING_13_1», «TILING_13_1_»}
+use Rattle.tilings.specs.Plan.{Chosen, tiling}
 use Rattle.choice.specs.Choice.{choiceOf}
 
 abbrev one : ℕ

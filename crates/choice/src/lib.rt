@@ -6,8 +6,8 @@ ghost use Prim.Native.Nat.{_<_};
 ghost use lib.Dec.{T};
 ghost use lib.IntN.{pos};
 ghost use lib.ListN.{getD};
-ghost use Rattle.families.specs.Tilings.{configurations};
-ghost use Rattle.families.specs.Answers.{chosen};
+ghost use Rattle.tilings.specs.Tilings.{configurations};
+ghost use Rattle.tilings.specs.Answers.{chosen};
 ghost use Rattle.choice.specs.Choice.{natOf, choiceOf, refusalOf};
 ghost use Rattle.choice.specs.Kin.{kin, kinOf};
 ghost use Rattle.choice.specs.Ranges.{inRanges};
@@ -15,7 +15,7 @@ ghost use Rattle.choice.specs.Starred.{StarredCubes};
 use cube::Cube;
 use cube::Refusal;
 use cube::Split;
-use families::Choice;
+use tilings::Choice;
 
 // A case and one of its configurations; `Nothing` is case 0.
 enum Family {

@@ -7,8 +7,8 @@ use cube::Refusal;
 use cube::Split;
 use edge::EdgeAnswer;
 use edge::Reading;
-use families::Choice;
-use families::Tiling;
+use tilings::Choice;
+use tilings::Tiling;
 
 fn print_signed(n: i8) {
     match cube::take_apart(n) {

@@ -10,10 +10,10 @@ use lib.ListN.{getD, List·getD-eq-default}
 use Rattle.cube.specs.declared.Cube.{Cube}
 use Rattle.cube.proofs.Table.{agree}
 use Rattle.notes.specs.Notes.{noNotes}
-use Rattle.families.specs.Tilings.{configurations, tilingsOf, firstTiling, isOneOf, hasCentre}
-use Rattle.families.specs.Plan.{Chosen, tiling, run}
+use Rattle.tilings.specs.Tilings.{configurations, tilingsOf, firstTiling, isOneOf, hasCentre}
+use Rattle.tilings.specs.Plan.{Chosen, tiling, run}
+use Rattle.tilings.specs.Answers.{answersOf}
 use Rattle.families.specs.Plans.{asking, plans, planOf}
-use Rattle.families.specs.Answers.{answersOf}
 
 module _ {case c : ℕ} where
   pub room : {k : ℕ} → case ≡ k → c < getD configurations case 0 → c < getD configurations k 0

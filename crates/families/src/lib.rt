@@ -2,40 +2,23 @@
 // inner routine for the choice, which has tested the family and the cube. Public: `choose`, and `asks` with
 // `choose_plain`, by which a caller spares a case that asks nothing the longer way.
 ghost use mathlib.Core.Path.{_≡_};
+ghost use mathlib.Core.Bool.{false};
 ghost use Prim.Native.Nat.{_<_};
 ghost use lib.ListN.{getD};
 ghost use Rattle.notes.specs.Notes.{noNotes};
-ghost use mathlib.Core.Bool.{false};
-ghost use Rattle.families.specs.Tilings.{configurations, firstTiling, isOneOf};
-ghost use Rattle.families.specs.Plan.{run};
+ghost use Rattle.tilings.specs.Tilings.{configurations, firstTiling, isOneOf};
+ghost use Rattle.tilings.specs.Plan.{run};
+ghost use Rattle.tilings.specs.Answers.{answersOf, chosen};
 ghost use Rattle.families.specs.Plans.{asking, planOf};
-ghost use Rattle.families.specs.Answers.{answersOf, chosen};
 
 pub mod cases;
-pub mod tilings;
 
 use cases::*;
 use cube::Cube;
-use cube::Refusal;
-use notes::Notes;
+use family_13::case_13;
 use tilings::*;
-
-// A tiling: its code, row and column, whether it is drawn with the centre, and what was counted.
-pub struct Tiling {
-    pub code: u8,
-    pub row: u8,
-    pub column: u8,
-    pub centre: bool,
-    pub notes: Notes,
-}
-
-// `Untiled` has the configuration and the sub-configuration.
-pub enum Choice {
-    Empty,
-    Untiled(u8, u8),
-    Tiled(Tiling),
-    Refused(Refusal),
-}
+use two_faces::case_10;
+use two_faces::case_12;
 
 // The first tiling of a case, its only one where the case asks nothing.
 fn first_tiling(case: u8) -> u8

@@ -6,9 +6,9 @@ use Rattle.face.specs.Face.{faceCorners, faceCorner, rule, faceBy, faceOf}
 use Rattle.edge.specs.Edge.{moves, moveOf, crossBy, readBy, edgeBy}
 use Rattle.interior.specs.Pick.{diagonals, lastMatch, pickWith, pickBy}
 use Rattle.interior.specs.Interior.{joined, noteOf, seenAs, lookAt, insideBy, insideOf}
+use Rattle.tilings.specs.Tilings.{configurations, hasCentre}
+use Rattle.tilings.specs.Plan.{askInTurn, settled, run}
 use Rattle.families.specs.Tables.{«TEST_3», «TEST_4»}
-use Rattle.families.specs.Tilings.{configurations, hasCentre}
-use Rattle.families.specs.Plan.{askInTurn, settled, run}
 use Rattle.families.specs.Plans.{plan3, plan4, plans, planOf}
 use Rattle.choice.specs.Choice.{choiceOf, refusalOf}
 use Rattle.reader.specs.Reader.{cubeAt}

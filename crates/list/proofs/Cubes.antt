@@ -15,7 +15,7 @@ use Rattle.cube.specs.declared.Cube.{Cube}
 use Rattle.reader.specs.declared.Step.{Step}
 use Rattle.reader.specs.declared.Step.the-variants as step
 use Rattle.reader.specs.Reader.{cubeAt, stepAt}
-use Rattle.families.specs.Plan.{Chosen}
+use Rattle.tilings.specs.Plan.{Chosen}
 use Rattle.choice.specs.Choice.{choiceOf, unsettledIn}
 use Rattle.choice.proofs.Ranges.{unsettled-bound}
 use Rattle.list.specs.Lists.{choiceAt}

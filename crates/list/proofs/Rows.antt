@@ -9,11 +9,11 @@ use lib.ListN.{length, set, length-append}
 use lib.Ieee.{Float}
 use mir.Val.{boolByte}
 use Rattle.cube.proofs.Bounds.{bit-bound}
-use Rattle.families.specs.declared.Choice.{Choice}
-use Rattle.families.specs.declared.Choice.the-variants.{Tiled}
-use Rattle.families.specs.declared.Tiling.{Tiling}
-use Rattle.families.specs.Plan.{Chosen, empty, noTiling, tiling, refused}
-use Rattle.families.specs.Answers.{chosen}
+use Rattle.tilings.specs.declared.Choice.{Choice}
+use Rattle.tilings.specs.declared.Choice.the-variants.{Tiled}
+use Rattle.tilings.specs.declared.Tiling.{Tiling}
+use Rattle.tilings.specs.Plan.{Chosen, empty, noTiling, tiling, refused}
+use Rattle.tilings.specs.Answers.{chosen}
 use Rattle.choice.specs.Choice.{unsettledIn}
 use Rattle.put.specs.Placed.{placed}
 use Rattle.put.proofs.Placed.{placed-length, placed-twice, set-placed}

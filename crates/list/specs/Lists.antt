@@ -7,7 +7,7 @@ use lib.IntN.{ℤ, pos}
 use lib.ListN.{length, getD, drop}
 use lib.Ieee.{Float}
 use Rattle.cube.specs.Bits.{bitOf}
-use Rattle.families.specs.Plan.{Chosen, empty, noTiling, tiling, refused}
+use Rattle.tilings.specs.Plan.{Chosen, empty, noTiling, tiling, refused}
 use Rattle.choice.specs.Choice.{choiceOf, refusalOf}
 use Rattle.reader.specs.Reader.{cubeAt}
 

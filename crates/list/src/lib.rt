@@ -2,7 +2,7 @@
 ghost use mathlib.Core.Path.{_≡_};
 ghost use Prim.Native.Nat.{_+_, _*_, _/_, _≤_, _<_};
 ghost use lib.ListN.{length};
-ghost use Rattle.families.specs.Answers.{chosen};
+ghost use Rattle.tilings.specs.Answers.{chosen};
 ghost use Rattle.choice.specs.Choice.{refusalOf, unsettledIn};
 ghost use Rattle.put.specs.Placed.{placed};
 ghost use Rattle.reader.specs.Reader.{cubeAt};
@@ -10,8 +10,8 @@ ghost use Rattle.list.specs.Lists.{choiceAt, bytesOf, done, firstFrom, r
 ghost use Rattle.list.specs.Results.{result, bytesIn};
 ghost use Rattle.list.specs.Tries.{ListTries};
 use cube::Cube;
-use families::Choice;
 use reader::Step;
+use tilings::Choice;
 
 // Done, or document 01's number of a refusal and the place of its cube.
 pub enum Outcome {

@@ -18,9 +18,9 @@ use Rattle.edge.specs.declared.EdgeAnswer.{EdgeAnswer}
 use Rattle.edge.specs.declared.EdgeAnswer.the-variants as Edge
 use Rattle.edge.specs.Edge as Edges
 use Rattle.edge.specs.Edge.{told, edgeReadingOf}
-use Rattle.families.specs.declared.Choice.{Choice}
-use Rattle.families.specs.Plan.{refused}
-use Rattle.families.specs.Answers.{chosen}
+use Rattle.tilings.specs.declared.Choice.{Choice}
+use Rattle.tilings.specs.Plan.{refused}
+use Rattle.tilings.specs.Answers.{chosen}
 use Rattle.choice.specs.Choice.{choiceOf}
 use Rattle.list.specs.declared.Outcome.{Outcome}
 use Rattle.list.specs.declared.Outcome.the-variants as List

@@ -7,7 +7,7 @@ use Rattle.cube.specs.Bits.{bitOf}
 use Rattle.face.specs.Face as Face
 use Rattle.edge.specs.Edge.{Told, rising, beyond, crossed, blank}
 use Rattle.edge.specs.Edge as Edge
-use Rattle.families.specs.Plan.{Chosen, empty, noTiling, tiling, refused}
+use Rattle.tilings.specs.Plan.{Chosen, empty, noTiling, tiling, refused}
 use Rattle.list.specs.Lists.{Result, done, refusedAt}
 use Rattle.mc33_c.specs.declared.Mc33Choice.{Mc33Choice}
 use Rattle.mc33_c.specs.declared.Mc33Face.{Mc33Face}

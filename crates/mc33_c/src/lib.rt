@@ -7,8 +7,8 @@ ghost use Rattle.face.specs.Face.{testFaceOf};
 ghost use Rattle.edge.specs.Edge.{told, edgeReadingOf};
 ghost use Rattle.cube.specs.Bits.{bitOf};
 ghost use Rattle.cube.specs.Refusals.{refusalNumber};
-ghost use Rattle.families.specs.Plan.{refused};
-ghost use Rattle.families.specs.Answers.{chosen};
+ghost use Rattle.tilings.specs.Plan.{refused};
+ghost use Rattle.tilings.specs.Answers.{chosen};
 ghost use Rattle.choice.specs.Choice.{choiceOf};
 ghost use lib.ListN.{length};
 ghost use Rattle.list.specs.Lists.{resultOf, answersOf};
@@ -21,8 +21,8 @@ use cube::Refusal;
 use edge::EdgeAnswer;
 use edge::Reading;
 use face::FaceAnswer;
-use families::Choice;
 use list::Outcome;
+use tilings::Choice;
 
 // `refusal` is 0 where there is an answer. Empty is all 0; no tiling is code 255 with the configuration
 // as row and the sub-configuration as column.

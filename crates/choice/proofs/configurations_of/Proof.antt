@@ -2,7 +2,7 @@
 use mathlib.Core.Path.{ap, sym}
 use Prim.Native.Nat.{ℕ}
 use lib.ListN.{getD}
-use Rattle.families.specs.Tilings.{configurations}
+use Rattle.tilings.specs.Tilings.{configurations}
 use Rattle.choice.proofs.Families.{no-more}
 use Rattle.choice.proofs.configurations_of.Statement.{statement}
 use Rattle.choice.proofs.configurations_of.Tie as tie

@@ -4,7 +4,7 @@ use borrow.Author.Needs.{needs}
 use lib.Dec.{T}
 use lib.IntN.{ℤ}
 use Rattle.cube.specs.declared.Cube.{Cube}
-use Rattle.families.specs.Plan.{Chosen}
+use Rattle.tilings.specs.Plan.{Chosen}
 use Rattle.choice.specs.Choice.{natOf, choiceOf}
 use Rattle.choice.specs.Ranges.{inRanges}
 use Rattle.choice.specs.Starred.{StarredCubes}

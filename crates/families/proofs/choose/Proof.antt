@@ -1,7 +1,7 @@
 -- `families::choose` follows the plan of its case.
 use mathlib.Core.Path.{_∙_}
 use borrow.Author.Needs.{needs}
-use Rattle.families.specs.Tilings.{configurations}
+use Rattle.tilings.specs.Tilings.{configurations}
 use Rattle.families.specs.Plans.{plans, planOf}
 use Rattle.families.proofs.Families.{room, reached, plainly, not-asking}
 use Rattle.families.proofs.choose.Statement.{statement}

@@ -1,6 +1,6 @@
 -- `families::first_tiling` is `firstTiling`.
 use mathlib.Core.Path.{ap, sym}
-use Rattle.families.specs.Tilings.{tilingsOf, firstTiling}
+use Rattle.tilings.specs.Tilings.{tilingsOf, firstTiling}
 use Rattle.families.proofs.Families.{no-first}
 use Rattle.families.proofs.first_tiling.Statement.{statement}
 use Rattle.families.proofs.first_tiling.Tie as tie

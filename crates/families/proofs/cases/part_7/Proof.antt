@@ -2,7 +2,7 @@
 use mathlib.Core.Path.{_∙_}
 use borrow.Author.Needs.{needs}
 use Rattle.families.specs.Plans.{part7}
-use Rattle.families.proofs.Settling.{nothing-counted}
+use Rattle.tilings.proofs.Settling.{nothing-counted}
 use Rattle.families.proofs.Runs.{seven-settled, seven-tabled}
 use Rattle.families.proofs.cases.part_7.Statement.{statement}
 use Rattle.families.proofs.cases.part_7.Tie as tie

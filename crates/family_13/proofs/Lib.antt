@@ -1,0 +1,2 @@
+mod Controls
+mod Runs

@@ -1,0 +1,54 @@
+-- What the controls of the cases try: which tilings a plan reaches, and for answers written down the choice that it makes. Assumes nothing.
+use mathlib.Core.Bool.{Bool, true, false, cond, not, _&&_, _||_}
+use mathlib.Core.List.{List, map, foldr}
+use Prim.Native.Nat.{ℕ}
+use lib.IntN.{ℤ, pos, negsuc, natAbs}
+use lib.Dec.{eqb}
+use Rattle.cube.proofs.Table.{allUnder}
+use Rattle.notes.specs.Notes.{noNotes}
+use Rattle.interior.specs.Interior.{seen}
+use Rattle.tilings.specs.Tilings.{isOneOf, columnsOf}
+use Rattle.tilings.specs.Plan.{Plan, nothing, untiled, tile, ask, Answers, Chosen, tiling, run}
+
+-- below 0
+abbrev pub isBelow : ℤ → Bool
+isBelow (pos n) = false
+isBelow (negsuc n) = true
+
+-- ---- every column of every one of the tilings is reached by the plan
+abbrev reaches : ℕ → ℕ → Plan → Bool
+reaches code column nothing = false
+reaches code column (untiled c sub) = false
+reaches code column (tile n row k) = eqb code n && eqb column k
+reaches code column (ask question p r) = reaches code column p || reaches code column r
+
+abbrev pub reachesAll : List ℕ → Plan → Bool
+reachesAll codes p = foldr _&&_ true (map (λ code. allUnder (columnsOf code) (λ k. reaches code k p)) codes)
+
+-- ---- a plan with its answers: the faces that are true, and `yes`, the answer of the case-13 test and of the interior test for an s above 0; for an s
+-- below 0 the interior test answers the other way
+pub record Test : Type 0 where
+  pub plan : Plan
+  pub faces : List ℕ
+  pub yes : Bool
+  pub makes : Chosen
+
+abbrev answers : Test → Answers
+answers t = record {
+  faces = λ n. isOneOf (natAbs n) (t .faces);
+  insides = λ ns s. seen (cond (isBelow s) (not (t .yes)) (t .yes)) noNotes;
+  insides13 = t .yes;
+}
+
+abbrev pub chosenIn : Test → Chosen
+chosenIn t = run (answers t) (t .plan) noNotes
+
+abbrev pub test : Plan → List ℕ → Bool → Chosen → Test
+test p faces b x = record { plan = p; faces = faces; yes = b; makes = x }
+
+-- code, row and column of a tiling drawn without the centre, and with it
+abbrev pub tiled : ℕ → ℕ → ℕ → Chosen
+tiled code row column = tiling code row column false noNotes
+
+abbrev pub centred : ℕ → ℕ → ℕ → Chosen
+centred code row column = tiling code row column true noNotes

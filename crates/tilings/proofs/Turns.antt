@@ -1,0 +1,44 @@
+-- Faces asked in turn: where such a plan leads, and three answers as one number. Assumes nothing.
+use mathlib.Core.Path.{_≡_, refl, ap, _∙_}
+use mathlib.Core.Bool.{Bool, true, false, cond}
+use mathlib.Core.List.{List, [], _∷_, map}
+use Prim.Native.Nat.{ℕ, _+_, _*_, _≤_}
+use native.Mathlib.Omega.{arith}
+use lib.IntN.{ℤ}
+use Rattle.cube.specs.declared.Cube.{Cube}
+use Rattle.cube.specs.Bits.{bitOf, numberOf}
+use Rattle.face.specs.Face.{faceOf}
+use Rattle.notes.specs.declared.Notes.{Notes}
+use Rattle.tilings.specs.Plan.{Plan, Answers, Chosen, run, askInTurn, nothing, tile, untiled, ask}
+
+module _ (w : Answers) where
+  pub in-turn : (ns : List ℤ) (next : ℕ → Plan) (m : Notes) → run w (askInTurn ns next) m ≡ run w (next (numberOf (map (w .faces) ns))) m
+  unfolding run askInTurn numberOf
+  in-turn [] next m = refl
+  in-turn (n ∷ ns) next m =
+      by-answer (w .faces n) (run w (askInTurn ns (λ k. next (1 + 2 * k))) m) (run w (askInTurn ns (λ k. next (2 * k))) m) next (numberOf (map (w .faces) ns)) m
+      (in-turn ns (λ k. next (1 + 2 * k)) m)
+      (in-turn ns (λ k. next (2 * k)) m)
+    where
+      by-answer : (b : Bool) (x y : Chosen) (next : ℕ → Plan) (k : ℕ) (m : Notes) → x ≡ run w (next (1 + 2 * k)) m → y ≡ run w (next (2 * k)) m
+          → cond b x y ≡ run w (next (bitOf b + 2 * k)) m
+      by-answer true x y next k m e f = e
+      by-answer false x y next k m e f = f ∙ ap (λ (j : ℕ). run w (next j) m) (omega arith)
+
+-- three answers as one number
+pub three-answers : (q : Cube) (x y z : ℤ) (b0 b1 b2 : Bool) → b0 ≡ faceOf q x → b1 ≡ faceOf q y → b2 ≡ faceOf q z
+    → (r : ℕ) → (r ≤ 7) × (r ≡ numberOf (b0 ∷ b1 ∷ b2 ∷ [])) → (r ≤ 7) × (r ≡ numberOf (map (faceOf q) (x ∷ y ∷ z ∷ [])))
+three-answers q x y z b0 b1 b2 e f g r (l, h) = (l, h ∙ rw (e, f, g))
+
+-- the tiling and the column that a plan comes to first, 0 where it has none
+abbrev pub codeOf : Plan → ℕ
+codeOf nothing = 0
+codeOf (untiled c sub) = 0
+codeOf (tile code row column) = code
+codeOf (ask question p r) = codeOf p
+
+abbrev pub columnOf : Plan → ℕ
+columnOf nothing = 0
+columnOf (untiled c sub) = 0
+columnOf (tile code row column) = column
+columnOf (ask question p r) = columnOf p

@@ -1,0 +1,24 @@
+-- A cube's answers, which plans are followed over, and the choices of the code by document 01's numbers. Definitions only.
+use mathlib.Core.Bool.{Bool, cond}
+use lib.IntN.{ℤ, pos, negsuc}
+use Rattle.cube.specs.declared.Cube.{Cube}
+use Rattle.cube.specs.Refusals.{refusalNumber}
+use Rattle.face.specs.Face.{faceOf}
+use Rattle.interior.specs.Interior.{insideOf}
+use Rattle.thirteen.specs.Thirteen.{case13Of}
+use Rattle.tilings.specs.declared.Choice.{Choice}
+use Rattle.tilings.specs.declared.Choice.the-variants.{Empty, Untiled, Tiled, Refused}
+use Rattle.tilings.specs.Plan.{Answers, Chosen, empty, noTiling, tiling, refused}
+
+abbrev pub answersOf : Cube → Answers
+answersOf q = record { faces = faceOf q; insides = insideOf q; insides13 = case13Of q }
+
+abbrev pub chosen : Choice → Chosen
+chosen Empty = empty
+chosen (Untiled c sub) = noTiling c sub
+chosen (Tiled t) = tiling (t .code) (t .row) (t .column) (t .centre) (t .notes)
+chosen (Refused why) = refused (refusalNumber why)
+
+-- the column s of the TEST tables is 7 or -7
+abbrev pub sideOf : Bool → ℤ
+sideOf positive = cond positive (pos 7) (negsuc 6)

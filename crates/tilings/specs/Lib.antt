@@ -1,0 +1,4 @@
+pub mod Answers
+pub mod Plan
+pub mod Tables
+pub mod Tilings

@@ -1,0 +1,61 @@
+-- A choice as a plan: what is asked, and where each answer leads. A plan knows no cube and no kind of number; `run` follows it over a cube's
+-- answers. Definitions only.
+use Prim.Native.Nat.{ℕ, _+_, _*_}
+use mathlib.Core.Bool.{Bool, cond}
+use mathlib.Core.List.{List, [], _∷_}
+use lib.IntN.{ℤ}
+use Rattle.notes.specs.declared.Notes.{Notes}
+use Rattle.notes.specs.Notes.{added}
+use Rattle.interior.specs.Interior.{Look, seen}
+use Rattle.interior.specs.Interior as Interior
+use Rattle.tilings.specs.Tilings.{hasCentre}
+
+pub data Question : Type 0 where
+  -- the face test of a signed face number
+  face : ℤ → Question
+  -- the interior test: the ambiguous faces, and s
+  inside : List ℕ → ℤ → Question
+  -- the case-13 test
+  inside13 : Question
+
+pub data Plan : Type 0 where
+  nothing : Plan
+  -- configuration and sub-configuration
+  untiled : ℕ → ℕ → Plan
+  -- code, row and column
+  tile : ℕ → ℕ → ℕ → Plan
+  -- what follows a yes, and a no
+  ask : Question → Plan → Plan → Plan
+
+-- the faces asked in turn; what follows is by the number that the answers make, 1 for the first, 2 for the second, 4 for the third ..
+unfoldable pub askInTurn : List ℤ → (ℕ → Plan) → Plan
+askInTurn [] next = next 0
+askInTurn (n ∷ ns) next = ask (face n) (askInTurn ns (λ k. next (1 + 2 * k))) (askInTurn ns (λ k. next (2 * k)))
+
+-- a cube's answers
+pub record Answers : Type 0 where
+  pub faces : ℤ → Bool
+  pub insides : List ℕ → ℤ → Look
+  pub insides13 : Bool
+
+-- document 01, 'A choice', or the number of a refusal
+pub data Chosen : Type 0 where
+  empty : Chosen
+  -- configuration and sub-configuration
+  noTiling : ℕ → ℕ → Chosen
+  -- code, row, column, centre and what was counted
+  tiling : ℕ → ℕ → ℕ → Bool → Notes → Chosen
+  refused : ℕ → Chosen
+
+-- where an interior test leads, with what it counted added
+unfoldable pub settled : Look → (Notes → Chosen) → (Notes → Chosen) → Notes → Chosen
+settled (seen hit k) f g m = cond hit (f (added m k)) (g (added m k))
+settled (Interior.refused n) f g m = refused n
+
+unfoldable pub run : Answers → Plan → Notes → Chosen
+run w nothing m = empty
+run w (untiled c sub) m = noTiling c sub
+run w (tile code row column) m = tiling code row column (hasCentre code) m
+run w (ask (face n) p r) m = cond (w .faces n) (run w p m) (run w r m)
+run w (ask (inside ns s) p r) m = settled (w .insides ns s) (run w p) (run w r) m
+run w (ask inside13 p r) m = cond (w .insides13) (run w p m) (run w r m)

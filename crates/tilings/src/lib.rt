@@ -1,0 +1,183 @@
+// Document 01, 'A choice': a choice, the tilings by the source's table names with their codes, and what makes
+// a choice of them. Also what the cases that ask something share: s, the ambiguous face, three faces asked.
+ghost use mathlib.Core.Path.{_≡_};
+ghost use mathlib.Core.List.{[], _∷_, map};
+ghost use Prim.Native.Nat.{_≤_};
+ghost use Rattle.cube.specs.Bits.{numberOf};
+ghost use Rattle.face.specs.Face.{faceOf};
+ghost use Rattle.face.specs.Columns.{placeOf};
+ghost use Rattle.notes.specs.Notes.{noNotes};
+ghost use Rattle.interior.specs.Interior.{looked};
+ghost use Rattle.tilings.specs.Tilings.{hasCentre};
+ghost use Rattle.tilings.specs.Plan.{settled, tiling};
+ghost use Rattle.tilings.specs.Answers.{chosen, sideOf};
+use cube::Cube;
+use cube::Face;
+use cube::Refusal;
+use cube::bits::three;
+use face::face_answer;
+use interior::AmbiguousFace;
+use interior::Found;
+use interior::Side;
+use notes::Notes;
+
+// A tiling: its code, row and column, whether it is drawn with the centre, and what was counted.
+pub struct Tiling {
+    pub code: u8,
+    pub row: u8,
+    pub column: u8,
+    pub centre: bool,
+    pub notes: Notes,
+}
+
+// `Untiled` has the configuration and the sub-configuration.
+pub enum Choice {
+    Empty,
+    Untiled(u8, u8),
+    Tiled(Tiling),
+    Refused(Refusal),
+}
+
+pub const TILING_1: u8 = 1;
+
+pub const TILING_2: u8 = 2;
+
+pub const TILING_3_1: u8 = 3;
+
+pub const TILING_3_2: u8 = 4;
+
+pub const TILING_4_1: u8 = 5;
+
+pub const TILING_4_2: u8 = 6;
+
+pub const TILING_5: u8 = 7;
+
+pub const TILING_6_1_1: u8 = 8;
+
+pub const TILING_6_1_2: u8 = 9;
+
+pub const TILING_6_2: u8 = 10;
+
+pub const TILING_7_1: u8 = 11;
+
+pub const TILING_7_2: u8 = 12;
+
+pub const TILING_7_3: u8 = 13;
+
+pub const TILING_7_4_1: u8 = 14;
+
+pub const TILING_7_4_2: u8 = 15;
+
+pub const TILING_8: u8 = 16;
+
+pub const TILING_9: u8 = 17;
+
+pub const TILING_10_1_1: u8 = 18;
+
+pub const TILING_10_1_1_: u8 = 19;
+
+pub const TILING_10_1_2: u8 = 20;
+
+pub const TILING_10_2: u8 = 21;
+
+pub const TILING_10_2_: u8 = 22;
+
+pub const TILING_11: u8 = 23;
+
+pub const TILING_12_1_1: u8 = 24;
+
+pub const TILING_12_1_1_: u8 = 25;
+
+pub const TILING_12_1_2: u8 = 26;
+
+pub const TILING_12_2: u8 = 27;
+
+pub const TILING_12_2_: u8 = 28;
+
+pub const TILING_13_1: u8 = 29;
+
+pub const TILING_13_1_: u8 = 30;
+
+pub const TILING_13_2: u8 = 31;
+
+pub const TILING_13_2_: u8 = 32;
+
+pub const TILING_13_3: u8 = 33;
+
+pub const TILING_13_3_: u8 = 34;
+
+pub const TILING_13_4: u8 = 35;
+
+pub const TILING_13_5_1: u8 = 36;
+
+pub const TILING_13_5_2: u8 = 37;
+
+pub const TILING_14: u8 = 38;
+
+// A bit for each code whose tiling is drawn with the centre.
+const CENTRES: u64 = 0xe18602000;
+
+pub fn has_centre(code: u8) -> bool
+    ensures { λ r. ⌜ r ≡ hasCentre code ⌝ }
+{
+    if 64 <= code {
+        return false;
+    }
+    (CENTRES >> code) % 2 == 1
+}
+
+pub fn tile(code: u8, row: u8, column: u8, notes: Notes) -> Choice
+    ensures { λ r. ⌜ chosen r ≡ tiling code row column (hasCentre code) notes ⌝ }
+{
+    Choice::Tiled(Tiling {
+        code: code,
+        row: row,
+        column: column,
+        centre: has_centre(code),
+        notes: notes,
+    })
+}
+
+// A tiling that is chosen with nothing counted, in a table with one tiling a row.
+pub fn plain(code: u8, row: u8) -> Choice
+    ensures { λ r. ⌜ chosen r ≡ tiling code row 0 (hasCentre code) noNotes ⌝ }
+{
+    tile(code, row, 0, notes::none())
+}
+
+// Where an interior test leads: to a tiling and its row by a yes, to another by a no.
+pub fn settle(found: Found, yes: u8, row: u8, no: u8, other: u8) -> Choice
+    ensures { λ r. ⌜ chosen r ≡ settled (looked found) (tiling yes row 0 (hasCentre yes)) (tiling no other 0 (hasCentre no)) noNotes ⌝ }
+{
+    match found {
+        Found::Seen(s) => {
+            let notes = s.notes;
+            if s.hit {
+                return tile(yes, row, 0, notes);
+            }
+            tile(no, other, 0, notes)
+        }
+        Found::Refused(why) => Choice::Refused(why),
+    }
+}
+
+// The number s of the TEST tables.
+pub fn side(positive: bool) -> Side
+    ensures { λ r. ⌜ r .0 ≡ sideOf positive ⌝ }
+{
+    if positive { Side(7) } else { Side(-7) }
+}
+
+// The face that is ambiguous where a signed face is tested.
+pub fn ambiguous(face: Face) -> AmbiguousFace
+    ensures { λ r. ⌜ r .0 ≡ placeOf (face .0) ⌝ }
+{
+    AmbiguousFace(face::place(face))
+}
+
+// Three faces asked: 1 for the first, 2 for the second, 4 for the third.
+pub fn ask_three(q: Cube, x: Face, y: Face, z: Face) -> u32
+    ensures { λ r. ⌜ (r ≤ 7) × (r ≡ numberOf (map (faceOf q) (x .0 ∷ y .0 ∷ z .0 ∷ []))) ⌝ }
+{
+    three(face_answer(q, x), face_answer(q, y), face_answer(q, z))
+}

@@ -1,0 +1,43 @@
+-- That the definitions say something, by computation: document 01's counts, that every tiling is reached, and for answers written down the choice that
+-- handle_cube makes. Assumes nothing.
+use mathlib.Core.Path.{_≡_, refl}
+use mathlib.Core.Bool.{true, false, _&&_}
+use mathlib.Core.List.{List, [], _∷_, map}
+use lib.Dec.{T}
+use lib.ListN.{getD, length}
+use Rattle.tilings.specs.Tilings.{tilingsOf, columnsOf, hasCentre}
+use Rattle.tilings.specs.Plan.{settled, run}
+use Rattle.tilings.proofs.Trials.{reachesAll, Test, test, chosenIn, tiled, centred}
+use Rattle.two_faces.specs.Tables.{«TEST_10», «TEST_12»}
+use Rattle.two_faces.specs.Plans.{twoFaces, plan10, plan12}
+
+rows : length «TEST_10» ∷ length «TEST_12» ∷ [] ≡ 6 ∷ 24 ∷ []
+unfolding «TEST_10» «TEST_12»
+rows = refl
+
+-- for configuration 0
+all-reached : T (reachesAll (getD tilingsOf 10 []) (plan10 0) && reachesAll (getD tilingsOf 12 []) (plan12 0))
+unfolding tilingsOf columnsOf twoFaces plan10 plan12 «TEST_10» «TEST_12»
+all-reached = tt
+
+tests : List Test
+tests =
+    -- with both faces true s = -7, and a no leads to row 5 - configuration
+    test (plan10 1) (5 ∷ []) true (centred 21 1 0)
+    ∷ test (plan10 1) (6 ∷ []) true (centred 22 1 0)
+    ∷ test (plan10 1) (5 ∷ 6 ∷ []) false (tiled 19 1 0)
+    ∷ test (plan10 1) (5 ∷ 6 ∷ []) true (tiled 20 4 0)
+    ∷ test (plan10 1) [] true (tiled 18 1 0)
+    ∷ test (plan10 1) [] false (tiled 20 1 0)
+    -- the same, and row 23 - configuration
+    ∷ test (plan12 3) (6 ∷ []) true (centred 27 3 0)
+    ∷ test (plan12 3) (4 ∷ []) true (centred 28 3 0)
+    ∷ test (plan12 3) (4 ∷ 6 ∷ []) false (tiled 25 3 0)
+    ∷ test (plan12 3) (4 ∷ 6 ∷ []) true (tiled 26 20 0)
+    ∷ test (plan12 3) [] true (tiled 24 3 0)
+    ∷ test (plan12 3) [] false (tiled 26 3 0)
+    ∷ []
+
+tests-hold : map chosenIn tests ≡ map (λ t. t .makes) tests
+unfolding tests run settled hasCentre twoFaces plan10 plan12 «TEST_10» «TEST_12»
+tests-hold = refl

@@ -1,0 +1,3 @@
+mod Controls
+mod Runs
+mod TwoFaces
