@@ -49,7 +49,8 @@ fn first_meetings(cubes: usize, random: &mut Random, counts: &mut [u32]) -> Vec<
     lines
 }
 
-// Prints the first meetings, without those that meet nothing that the others do not, then more cubes.
+// Prints the first meetings, without those that meet nothing that the others do not, then more cubes, then
+// the beginning of a line that does not end.
 pub fn sample(seed: u64) -> bool {
     let (mut random, mut counts, mut printed) = (Random(seed), vec![0; SAMPLED], 0);
     print!("{}", String::from_utf8_lossy(INPUT_NAMES));
@@ -64,6 +65,7 @@ pub fn sample(seed: u64) -> bool {
     for place in printed..LINES {
         print!("{}", input_line(&cube(&mut random, place % REGIMES.len())));
     }
+    print!("3 0");
     let unmet = wanted().into_iter().filter(|(thing, _)| counts[*thing] == 0);
     unmet.map(|(_, name)| eprintln!("not in the sample: {name}")).count() == 0
 }
