@@ -5,7 +5,7 @@ ghost use Prim.Native.Nat.{_≤_, _<_};
 ghost use lib.ListN.{length};
 
 // How many bytes were put; or that an escape is none of these, or that the room is too short.
-pub enum Decoded {
+pub(crate) enum Decoded {
     Bytes(usize),
     Not,
 }
@@ -125,7 +125,7 @@ fn step(text: &[u8], at: usize, room: &mut [u8], put: usize) -> Place
     escape(text, next, room, put)
 }
 
-pub fn decode(text: &[u8], room: &mut [u8]) -> Decoded {
+pub(crate) fn decode(text: &[u8], room: &mut [u8]) -> Decoded {
     let mut place = Place {
         at: 0,
         put: 0,

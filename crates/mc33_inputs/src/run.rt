@@ -79,14 +79,14 @@ fn end(run: Run, input: &[u8], out: &mut [u8]) -> usize {
 }
 
 // As two blocks, the first of `cut` bytes; as one where `cut` is 0.
-pub fn in_two(input: &[u8], cut: usize, out: &mut [u8]) -> usize {
+pub(crate) fn in_two(input: &[u8], cut: usize, out: &mut [u8]) -> usize {
     let first = block(begun(), input, 0, cut, out);
     let second = block(first, input, cut, input.len(), out);
     end(second, input, out)
 }
 
 // A byte at a time.
-pub fn in_bytes(input: &[u8], out: &mut [u8]) -> usize {
+pub(crate) fn in_bytes(input: &[u8], out: &mut [u8]) -> usize {
     let mut run = begun();
     let mut to = 0;
     while to < input.len() && !run.over {
