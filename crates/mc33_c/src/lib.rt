@@ -1,8 +1,9 @@
 // The C interface of the proved crates, for C and Rust to link as a static library. Each function takes
 // numbers and gives document 01's numbers, and promises what the crate's own routine does.
 ghost use mathlib.Core.Path.{_≡_};
-ghost use Rattle.root.specs.Root.{rootBits};
-ghost use Rattle.root.specs.Special.{SpecialBits};
+ghost use Rattle.root.specs.Root.{rootOf, rootBits};
+ghost use Rattle.root.specs.Nearest.{NearestRoot};
+ghost use Rattle.root.specs.Special.{SpecialRoots, SpecialBits};
 ghost use Rattle.face.specs.Face.{testFaceOf};
 ghost use Rattle.edge.specs.Edge.{told, edgeReadingOf};
 ghost use Rattle.cube.specs.Bits.{bitOf};
@@ -58,6 +59,16 @@ pub struct Mc33Edge {
 pub struct Mc33Outcome {
     pub refusal: u64,
     pub place: u64,
+}
+
+// The f32 square root of x: the nearest value. A NaN has no pattern of its own here.
+#[no_mangle]
+pub extern "C" fn mc33_root(x: f32) -> f32
+    ensures value { λ r. ⌜ r ≡ rootOf x ⌝ }
+    ensures nearest { λ r. ⌜ NearestRoot x r ⌝ }
+    ensures special { λ r. ⌜ SpecialRoots x r ⌝ }
+{
+    root::root(x)
 }
 
 // The pattern of the f32 square root of the value with the pattern `bits`; 7fc00000 for every NaN.
