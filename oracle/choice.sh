@@ -5,6 +5,7 @@
 #   oracle/choice.sh SOURCE compare 200000000 1
 #   oracle/choice.sh SOURCE speed
 #   oracle/choice.sh SOURCE sample 1 > crates/mc33/stdin
+#   oracle/choice.sh SOURCE input 1000000 1 > INPUT
 #   oracle/choice.sh SOURCE text < crates/mc33/stdin > crates/mc33/stdout
 set -euo pipefail
 here="$PWD"

@@ -1,8 +1,8 @@
 #!/usr/bin/env bash
 # Builds the program mc33 and runs it, outside the gate:
 #
-#   oracle/text.sh inputs                 on the inputs of crates/mc33_inputs, through a pipe, at once and in
-#                                         one-byte writes
+#   oracle/text.sh inputs                 on the inputs of crates/mc33_inputs, through a pipe at once and a byte at
+#                                         a time, and from a file; and with a read and a write that fail
 #   oracle/text.sh SOURCE speed [BYTES]   against the plain Rust program of oracle/choice/text.rs, on a
 #                                         gigabyte of mixed cubes or on BYTES; SOURCE as for oracle/choice.sh
 set -euo pipefail
@@ -24,7 +24,7 @@ case "${1-}" in
         exec python3 oracle/throughput.py target/oracle/input target/bin/mc33 target/oracle/choice text
         ;;
     *)
-        echo "inputs | speed [BYTES]" >&2
+        echo "inputs | [SOURCE] speed [BYTES]" >&2
         exit 2
         ;;
 esac

@@ -101,8 +101,8 @@ fn median(mut times: Vec<f64>) -> f64 {
     times[times.len() / 2]
 }
 
-// Medians of ours, of theirs, and of their quotient round by round.
-fn race(mut ours: impl FnMut() -> f64, mut theirs: impl FnMut() -> f64) -> [f64; 3] {
+// Medians of ours and of theirs; the two take turns, and the first of a round is each in turn.
+fn race(mut ours: impl FnMut() -> f64, mut theirs: impl FnMut() -> f64) -> [f64; 2] {
     let (mut our_times, mut their_times) = (Vec::new(), Vec::new());
     for round in 0..101 {
         if round % 2 == 0 {
@@ -113,28 +113,29 @@ fn race(mut ours: impl FnMut() -> f64, mut theirs: impl FnMut() -> f64) -> [f64;
             our_times.push(ours());
         }
     }
-    let quotients = our_times.iter().zip(&their_times).map(|(a, b)| a / b).collect();
-    [median(our_times), median(their_times), median(quotients)]
+    [median(our_times), median(their_times)]
 }
 
-fn print_race(name: &str, [ours, theirs, quotient]: [f64; 3]) -> bool {
+fn print_race([ours, theirs]: [f64; 2]) -> bool {
     let times = ours / theirs;
-    println!("{name:<30}{ours:>9.2}{theirs:>12.2}{times:>8.2}{quotient:>16.2}");
+    print!("{ours:>9.1}{theirs:>9.1}{times:>7.2}");
     times <= 1.0
 }
 
 pub fn speed() -> bool {
     let (mut rust, mut fast) = (Bare::new(), true);
-    println!("{:<30}{:>9}{:>12}{:>8}{:>16}", "ns a cube", "ours", "the Rust's", "times", "round by round");
+    println!("{:<24}{:>25}{:>25}", "ns a cube", "choice", "list");
+    println!("{:<24}{:>9}{:>9}{:>7}{:>9}{:>9}{:>7}", "", "ours", "Rust's", "times", "ours", "Rust's", "times");
     for course in courses() {
-        let raced = race(|| time_ours(&course.cubes), || time_theirs(&course.cubes, &mut rust));
-        fast &= print_race(&course.name, raced) | !course.bounded;
+        print!("{:<24}", course.name);
+        let choices = print_race(race(|| time_ours(&course.cubes), || time_theirs(&course.cubes, &mut rust)));
         let (mut lists, mut answers) = (lists(&course.cubes), vec![[0; 4]; course.cubes.len()]);
-        let raced = race(
+        let listed = print_race(race(
             || time_our_list(&mut lists),
             || time_their_list(&course.cubes, &mut answers, &mut rust),
-        );
-        fast &= print_race(&format!("list, {}", course.name), raced) | !course.bounded;
+        ));
+        println!();
+        fast &= (choices & listed) | !course.bounded;
     }
     fast
 }

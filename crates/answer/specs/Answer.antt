@@ -70,7 +70,7 @@ unfoldable pub cubeReply : Line → Reply
 cubeReply (Given case configuration q) = choiceReply (choiceOf case configuration q)
 cubeReply Malformed = refusal 8
 
--- the first line names the fields
+-- the first line names the fields; there is no line 0
 unfoldable pub replyTo : ℕ → List ℕ → Reply
 replyTo number line = cond (leb number 1) (cond (same line inputNames) (answer outputNames) (refusal 8)) (cubeReply (parseLine line))
 

@@ -1,6 +1,6 @@
 // Runs the choice on document 01's cubes to check by hand, on the lines of its program and on a cube for
-// each refusal, and the edge reading on a cube for each kind; prints what each says. A tiling is its code,
-// row, column, centre and unsettled number.
+// each refusal of a choice, and the edge reading on a cube for each kind; prints what each says. A tiling is
+// its code, row, column, centre and unsettled number.
 use cube::Cube;
 use cube::EdgeNo;
 use cube::Refusal;

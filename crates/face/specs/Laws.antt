@@ -34,7 +34,8 @@ pub record FaceLaws (n : ℤ) (a b c d : Float) (r : Bool) : Type 0 where
   pub tie : T (lt (magnitude (sub binary32 (mul binary32 a c) (mul binary32 b d))) epsilon) → r ≡ isPositive n
   -- a NaN val answers false
   pub not-a-number : sub binary32 (mul binary32 a c) (mul binary32 b d) ≡ nan → r ≡ false
-  -- the cube on the other side, which reads the values as d, c, b, a, has the same answer for the same number
+  -- the values turned round, d, c, b, a, as the other cube reads them where faces 1 and 3 or 2 and 4 meet, have the same answer
+  -- for the same number
   pub symmetry : T (isFace n) → T (alternate a b c d) → r ≡ rule f32 n d c b a
   -- and the number with the other sign has the other answer
   pub against : T (isFace n) → T (alternate a b c d) → r ≡ not (rule f32 (negℤ n) a b c d)

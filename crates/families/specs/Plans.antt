@@ -26,7 +26,7 @@ plan6 c =
     ask (face first) (tile «TILING_6_2» c 0)
     (ask (inside (natAbs first ∷ []) (entry «TEST_6» c 1)) (tile «TILING_6_1_1» c 0) (tile «TILING_6_1_2» c 0))
 
--- by the sub-configuration
+-- by the sub-configuration; the interior test of case 7 takes -s
 unfoldable pub part7 : ℕ → ℕ → Plan
 part7 c sub =
     getD

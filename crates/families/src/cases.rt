@@ -88,6 +88,7 @@ fn part_7(q: Cube, c: u8, sub: u32) -> Choice
     ensures { λ r. ⌜ chosen r ≡ run (answersOf q) (part7 c sub) noNotes ⌝ }
 {
     if sub == 7 {
+        // -s, so 7 in the second half of the rows
         return settle(
             test_interior_three(q, side(8 <= c)),
             TILING_7_4_1,

@@ -1,5 +1,5 @@
-// The families of document 01, 'Choice': from a case and one of its configurations to the tiling. An
-// inner routine for the choice, which has tested the family and the cube. Public: `choose`, and `asks` with
+// The cases of document 01, 'Choice': from a case and one of its configurations, together a family, to the choice. Inner
+// routines for the choice, which has tested the family and the cube. Public: `choose`, and `asks` with
 // `choose_plain`, by which a caller spares a case that asks nothing the longer way.
 ghost use mathlib.Core.Path.{_≡_};
 ghost use mathlib.Core.Bool.{false};

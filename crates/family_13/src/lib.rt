@@ -1,5 +1,5 @@
 // Case 13 of document 01, 'Choice': the columns of TEST_13, SUB_CONFIG_13 as tilings and columns, and the function
-// that follows the case's plan.
+// that follows the case's plan. Public: `case_13`.
 ghost use mathlib.Core.Path.{_≡_};
 ghost use Prim.Native.Nat.{_<_, _≤_};
 ghost use lib.IntN.{negsuc};
@@ -59,6 +59,7 @@ const COLUMN_OF_13: [[u8; 8]; 8] = [
     [0, 4, 0, 2, 0, 1, 0, 0],
 ];
 
+// 13_5_2 is at the other configuration's row.
 fn tile_13(q: Cube, c: u8, code: u8, column: u8) -> Choice
     requires { ⌜ c < 2 ⌝ }
     ensures { λ r. ⌜ chosen r ≡ run (answersOf q) (tile13 c code column) noNotes ⌝ }

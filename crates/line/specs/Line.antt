@@ -1,4 +1,5 @@
--- Document 01, 'Program': a line of two decimals and eight corners, single spaces. Definitions only.
+-- Document 01, 'Program': a line of two decimals and eight corners, single spaces, as it is parsed. The form as document 01 writes it is `lineOf` in
+-- Written.antt, and `WrittenBack` and `OnlyWritten` there say that just this is parsed. Definitions only.
 use Prim.Native.Nat.{ℕ, suc, _+_, _-_, _*_}
 use mathlib.Core.Bool.{Bool, true, cond, _&&_}
 use mathlib.Core.List.{List, [], _∷_, map, foldr}

@@ -11,7 +11,7 @@ use Rattle.tilings.specs.Plan.{Chosen, empty, noTiling, tiling, refused}
 use Rattle.choice.specs.Choice.{choiceOf, refusalOf}
 use Rattle.reader.specs.Reader.{cubeAt}
 
--- 8 corner values a cube
+-- how many cubes there are, 8 corner values each
 abbrev pub cubes : List Float → ℕ
 cubes xs = length xs / 8
 

@@ -29,7 +29,7 @@ sameValues [] (y ∷ ys) = false
 sameValues (x ∷ xs) [] = false
 sameValues (x ∷ xs) (y ∷ ys) = eq x y && sameValues xs ys
 
--- |n| is f and |p| is g, and the corners of k's face f have the values of l's corners cs, in order
+-- n is f and p is g, face numbers without their signs, and the corners of k's face f have the values of l's corners cs, in order
 unfoldable pub meetAt : Cube → ℕ → Cube → ℕ → ℕ → ℕ → List ℕ → Bool
 meetAt k n l p f g cs = eqb n f && (eqb p g && sameValues (valuesAt k (getD faceCorners f [])) (valuesAt l cs))
 

@@ -1,5 +1,5 @@
-// What a choice counts on its way: document 01, 'A choice'. Only `Notes`, `none` and `add`, and the makers
-// of a note, know the fields.
+// What a choice counts on its way: document 01, 'A choice'. `none`, `add` and the maker of a note (`interior`) set the
+// fields; they are read where an answer is written.
 ghost use mathlib.Core.Path.{_≡_};
 ghost use Prim.Native.Nat.{_+_, _≤_};
 ghost use Rattle.notes.specs.Notes.{noNotes, added, total};

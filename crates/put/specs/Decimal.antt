@@ -9,6 +9,6 @@ unfoldable pub decimalIn : ℕ → ℕ → List ℕ
 decimalIn zero n = []
 decimalIn (suc k) n = cond (ltb n 10) ((48 + n) ∷ []) (decimalIn k (n / 10) ++ ((48 + n % 10) ∷ []))
 
--- no number has more digits than one above it
+-- n has at most n + 1 digits
 unfoldable pub decimal : ℕ → List ℕ
 decimal n = decimalIn (suc n) n

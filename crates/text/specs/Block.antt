@@ -29,7 +29,7 @@ abbrev pub after : Reply → ℕ → Block → Block
 after (answer text) number next = behind text next
 after (refusal why) number next = stopped why number
 
--- no line is longer than 81 bytes: a part line that is, is refused whatever comes
+-- no line that is accepted is longer than 81 bytes, `-128 -128` and eight corners: a part line that is longer is refused whatever comes
 unfoldable pub blockFrom : ℕ → List ℕ → List ℕ → Block
 blockFrom number part [] = cond (leb 82 (length part)) (stopped 8 number) (block [] part number false)
 blockFrom number part (b ∷ bs) = cond (eqb b 10) (after (replyTo number part) number (blockFrom (suc number) [] bs)) (blockFrom number (part ++ (b ∷ [])) bs)

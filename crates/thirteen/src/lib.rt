@@ -34,6 +34,7 @@ fn false_only(m: Moves, t1: f32, t2: f32) -> bool
     true
 }
 
+// The case-13 test: a, b and the places as edge 0's, whose u1 to u4 are c1, c5, c6 and c2.
 pub fn interior_test_case13(q: Cube) -> bool
     ensures { λ r. ⌜ r ≡ case13Of q ⌝ }
 {

@@ -10,9 +10,11 @@ use Rattle.tilings.specs.declared.Choice.{Choice}
 use Rattle.tilings.specs.declared.Choice.the-variants.{Empty, Untiled, Tiled, Refused}
 use Rattle.tilings.specs.Plan.{Answers, Chosen, empty, noTiling, tiling, refused}
 
+-- what a cube answers to a plan's questions
 abbrev pub answersOf : Cube → Answers
 answersOf q = record { faces = faceOf q; insides = insideOf q; insides13 = case13Of q }
 
+-- a choice of the code by document 01's numbers
 abbrev pub chosen : Choice → Chosen
 chosen Empty = empty
 chosen (Untiled c sub) = noTiling c sub

@@ -1,5 +1,6 @@
 // Document 01, 'A choice': a choice, the tilings by the source's table names with their codes, and what makes
-// a choice of them. Also what the cases that ask something share: s, the ambiguous face, three faces asked.
+// a choice of them (`tile`, `plain`, `settle`, `has_centre`). Also what the cases that ask something share: s (`side`), the
+// ambiguous face (`ambiguous`), three faces asked (`ask_three`).
 ghost use mathlib.Core.Path.{_≡_};
 ghost use mathlib.Core.List.{[], _∷_, map};
 ghost use Prim.Native.Nat.{_≤_};
@@ -126,6 +127,7 @@ pub fn has_centre(code: u8) -> bool
     (CENTRES >> code) % 2 == 1
 }
 
+// A choice of a tiling; the centre goes by the code.
 pub fn tile(code: u8, row: u8, column: u8, notes: Notes) -> Choice
     ensures { λ r. ⌜ chosen r ≡ tiling code row column (hasCentre code) notes ⌝ }
 {

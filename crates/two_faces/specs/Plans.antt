@@ -7,7 +7,8 @@ use Rattle.tilings.specs.Tilings.{«TILING_10_1_1», «TILING_10_1_1_», «TILI
 use Rattle.tilings.specs.Plan.{Plan, tile, ask, face, inside}
 use Rattle.two_faces.specs.Tables.{«TEST_10», «TEST_12»}
 
--- cases 10 and 12 ask two faces. With both true the interior test takes -s, with both false s
+-- cases 10 and 12 ask two faces. With both true the interior test takes -s, with both false s. A no after -s leads to row
+-- 5 - configuration, and in case 12 to 23 - configuration
 unfoldable pub twoFaces : ℤ → ℤ → ℤ → List ℕ → Plan → Plan → Plan → Plan → Plan → Plan → Plan
 twoFaces first second s ns both-yes both-no first-alone second-alone none-yes none-no =
     ask (face first)
