@@ -1,4 +1,4 @@
--- What is kept is what the block left: its bytes, moved to the front. Assumes nothing.
+-- What is kept is what the block left: its bytes, at most 81, moved to the front. Assumes nothing.
 use mathlib.Core.Path.{_≡_, sym, ap, _∙_, subst}
 use mathlib.Core.Bool.{Bool, true, false}
 use mathlib.Core.List.{List, _++_}
@@ -10,6 +10,7 @@ use lib.Seq.{length-take-le, take-add, drop-at}
 use Rattle.put.specs.Placed.{placed}
 use Rattle.put.proofs.Placed.{placed-front}
 use Rattle.text.specs.Block.{Block, block, blockOf}
+use Rattle.text.proofs.Joins.{left-short}
 use Rattle.mc33.specs.Kept.{Kept}
 
 -- the end of a part
@@ -31,16 +32,16 @@ at-front from to xs h l =
 pub kept : (xs ys : List ℕ) (first n left have number : ℕ) (written : List ℕ) (over : Bool) → left ≤ n → n ≤ length xs
     → block written (drop left (take (n - 0) xs)) number over ≡ blockOf first (take (n - 0) xs) → over ≡ false
     → have ≡ n - left → ys ≡ placed xs 0 (take (n - left) (drop left xs))
-    → Kept true (take have ys) number (blockOf first (take n xs))
-kept xs ys first n left have number written over h l e o a b t =
-    let i = subst (λ (m : ℕ). block written (drop left (take m xs)) number over ≡ blockOf first (take m xs)) (sub-zero n) e in (
-      ap (λ (y : Block). y .over) (sym i) ∙ o,
-      (
-        ap (λ (m : ℕ). take m ys) a
-            ∙ ap (take (n - left)) b
-            ∙ at-front left n xs h l
-            ∙ sym (drop-take left n xs h l)
-            ∙ ap (λ (y : Block). y .left) i,
-        ap (λ (y : Block). y .number) i,
+    → (have ≤ 81) × Kept true (take have ys) number (blockOf first (take n xs))
+kept xs ys first n left have number written over h l e o a b =
+    let i = subst (λ (m : ℕ). block written (drop left (take m xs)) number over ≡ blockOf first (take m xs)) (sub-zero n) e in
+    let j = ap (λ (y : Block). y .left) i in (
+      omega (arith, a, ap length j, left-short first (take n xs), length-drop left (take n xs), length-take-le n xs l),
+      λ t. (
+        ap (λ (y : Block). y .over) (sym i) ∙ o,
+        (
+          ap (λ (m : ℕ). take m ys) a ∙ ap (take (n - left)) b ∙ at-front left n xs h l ∙ sym (drop-take left n xs h l) ∙ j,
+          ap (λ (y : Block). y .number) i,
+        ),
       ),
     )

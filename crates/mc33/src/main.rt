@@ -31,7 +31,7 @@ fn begun() -> State
 }
 
 fn stopped() -> State
-    ensures { λ r. ⌜ (r .have ≤ 65536) × (r .going ≡ false) ⌝ }
+    ensures { λ r. ⌜ (r .have ≤ 81) × (r .going ≡ false) ⌝ }
 {
     State {
         have: 0,
@@ -41,7 +41,7 @@ fn stopped() -> State
 }
 
 fn failed(what: &[u8]) -> State
-    ensures { λ r. ⌜ (r .have ≤ 65536) × (r .going ≡ false) ⌝ }
+    ensures { λ r. ⌜ (r .have ≤ 81) × (r .going ≡ false) ⌝ }
 {
     io::write_all(STDERR_FILENO, b"mc33: ");
     io::write_all(STDERR_FILENO, what);
@@ -52,7 +52,7 @@ fn failed(what: &[u8]) -> State
 // Answers the n bytes that there are: what is kept is what their block leaves.
 fn answer(number: u64, buf: &mut [u8], n: usize, out: &mut [u8]) -> State
     requires { ⌜ (n ≤ 65536) × ((n ≤ length (now buf)) × (n + 64 ≤ length (now out))) ⌝ }
-    ensures have { λ r. ⌜ r .have ≤ 65536 ⌝ }
+    ensures have { λ r. ⌜ r .have ≤ 81 ⌝ }
     ensures kept { λ r. ⌜ Kept (r .going) (take (r .have) (now (buf .exit))) (r .number) (blockOf number (take n (now (buf .entry)))) ⌝ }
 {
     if 0x8000_0000_0000_0000 <= number {
@@ -74,9 +74,10 @@ fn answer(number: u64, buf: &mut [u8], n: usize, out: &mut [u8]) -> State
     }
 }
 
+// The input's end: answers it and stops.
 fn finish(number: u64, part: &[u8], out: &mut [u8]) -> State
     requires { ⌜ 64 ≤ length (now out) ⌝ }
-    ensures { λ r. ⌜ r .have ≤ 65536 ⌝ }
+    ensures { λ r. ⌜ (r .have ≤ 81) × (r .going ≡ false) ⌝ }
 {
     let put = text::finish(part, number, out);
     if !io::write_all(STDOUT_FILENO, &out[0..put]) {
@@ -85,9 +86,10 @@ fn finish(number: u64, part: &[u8], out: &mut [u8]) -> State
     stopped()
 }
 
+// Reads once and answers what there is. A part line leaves room to read, so 0 is the input's end.
 fn turn(state: State, buf: &mut [u8], out: &mut [u8]) -> State
-    requires { ⌜ (state .have ≤ 65536) × ((length (now buf) ≡ 65536) × (length (now out) ≡ 65664)) ⌝ }
-    ensures { λ r. ⌜ r .have ≤ 65536 ⌝ }
+    requires { ⌜ (state .have ≤ 81) × ((length (now buf) ≡ 65536) × (length (now out) ≡ 65664)) ⌝ }
+    ensures { λ r. ⌜ r .have ≤ 81 ⌝ }
 {
     let have = state.have;
     let got = libc::read(STDIN_FILENO, &mut buf[have..]);

@@ -2,10 +2,11 @@
 use mathlib.Core.Path.{_≡_, refl, sym, ap, _∙_}
 use mathlib.Core.Bool.{Bool, true, false, cond}
 use mathlib.Core.List.{List, [], _∷_, _++_, append-nil, append-assoc, foldr}
-use Prim.Native.Nat.{ℕ, suc}
+use Prim.Native.Nat.{ℕ, suc, _≤_}
+use native.Mathlib.Omega.{arith}
 use lib.Dec.{eqb, leb}
 use lib.ListN.{length}
-use borrow.Author.Tests.{leb-true}
+use borrow.Author.Tests.{leb-true, leb-false}
 use Rattle.answer.specs.Answer.{Reply, answer, refusal, replyTo, refusedLine}
 use Rattle.text.specs.Run.{follow, runFrom, run}
 use Rattle.text.specs.Block.{Block, block, stopped, after, blockFrom, blockOf, onward, Composes, runBlocks, BlocksJoin}
@@ -46,27 +47,38 @@ pub composes : (number : ℕ) (input : List ℕ) → Composes number input
 unfolding blockOf
 composes number input rest = whole-from number [] input rest plain-nil
 
-left-end : (t : Bool) (n : ℕ) (part : List ℕ) → Plain part → Plain ((cond t (stopped 8 n) (block [] part n false)) .left)
-left-end true n part h = plain-nil
-left-end false n part h = h
+-- a part line that is left: no newline, and no more than a line may have
+abbrev Part : List ℕ → Type 0
+Part part = Plain part × (length part ≤ 81)
 
-left-after : (r : Reply) (n : ℕ) (x : Block) → Plain (x .left) → Plain ((after r n x) .left)
+part-nil : Part []
+part-nil = (plain-nil, omega arith)
+
+left-end : (t : Bool) (n : ℕ) (part : List ℕ) → leb 82 (length part) ≡ t → Plain part → Part ((cond t (stopped 8 n) (block [] part n false)) .left)
+left-end true n part e h = part-nil
+left-end false n part e h = let short = leb-false 82 (length part) e in (h, omega arith)
+
+left-after : (r : Reply) (n : ℕ) (x : Block) → Part (x .left) → Part ((after r n x) .left)
 left-after (answer text) n x h = h
-left-after (refusal why) n x h = plain-nil
+left-after (refusal why) n x h = part-nil
 
-left-step : (t : Bool) (x y : Block) → (t ≡ true → Plain (x .left)) → (t ≡ false → Plain (y .left)) → Plain ((cond t x y) .left)
+left-step : (t : Bool) (x y : Block) → (t ≡ true → Part (x .left)) → (t ≡ false → Part (y .left)) → Part ((cond t x y) .left)
 left-step true x y p q = p refl
 left-step false x y p q = q refl
 
-left-plain : (n : ℕ) (part input : List ℕ) → Plain part → Plain ((blockFrom n part input) .left)
+left-from : (n : ℕ) (part input : List ℕ) → Plain part → Part ((blockFrom n part input) .left)
 unfolding blockFrom
-left-plain n part [] h = left-end (leb 82 (length part)) n part h
-left-plain n part (b ∷ bs) h =
+left-from n part [] h = left-end (leb 82 (length part)) n part refl h
+left-from n part (b ∷ bs) h =
     let next : Block = blockFrom (suc n) [] bs in
     let longer : List ℕ = part ++ (b ∷ []) in
     left-step (eqb b 10) (after (replyTo n part) n next) (blockFrom n longer bs)
-    (λ e. left-after (replyTo n part) n next (left-plain (suc n) [] bs plain-nil))
-    (λ e. left-plain n longer bs (plain-snoc part b h e))
+    (λ e. left-after (replyTo n part) n next (left-from (suc n) [] bs plain-nil))
+    (λ e. left-from n longer bs (plain-snoc part b h e))
+
+pub left-short : (number : ℕ) (input : List ℕ) → length ((blockOf number input) .left) ≤ 81
+unfolding blockOf
+left-short number input = left-from number [] input plain-nil .1
 
 join-from : (n : ℕ) (part : List ℕ) (inputs : List (List ℕ)) → Plain part → runBlocks n part inputs ≡ runFrom n [] (part ++ foldr _++_ [] inputs)
 unfolding runBlocks onward runFrom blockOf
@@ -75,7 +87,7 @@ join-from n part (input ∷ inputs) h =
     let x : Block = blockOf n (part ++ input) in
     let rest : List ℕ = foldr _++_ [] inputs in
     ap (λ (w : List ℕ). x .written ++ cond (x .over) [] w)
-    (join-from (x .number) (x .left) inputs (left-plain n [] (part ++ input) plain-nil))
+    (join-from (x .number) (x .left) inputs (left-from n [] (part ++ input) plain-nil .0))
     ∙ composes n (part ++ input) rest
     ∙ ap (runFrom n []) (append-assoc part input rest)
 

@@ -1,4 +1,4 @@
--- `mc33::answer` keeps what its block leaves; a stopped program keeps nothing. Assumes nothing.
+-- `mc33::answer` keeps what its block leaves, at most 81 bytes; a stopped program keeps nothing. Assumes nothing.
 use borrow.Author.Needs.{needs}
 use mathlib.Core.Path.{sym, _∙_, subst}
 use native.Mathlib.Omega.{arith}
@@ -80,13 +80,11 @@ returns-4 : tie.Need-returns-4
 returns-4 c =
     let b = c .before .before .before .before .before .before .before .before .before .before .before in
     let s = b .before .before .before .before .before .before .before in
-    let n = s .args .n in (
-      omega arith,
-      kept (s .args .buf .now) (c .before .before .to-front .last .0) (s .args .number) n (b .answer-block .result .left) (c .before .before .to-front .result)
-          (b .answer-block .result .number) _ (b .answer-block .result .over) (omega arith) (omega arith)
-          (b .answer-block .ensures .0) (c .before .before .before .before .if3 .left)
-          (c .before .before .to-front .ensures .0) (c .before .before .to-front .ensures .1),
-    )
+    let n = s .args .n in
+    kept (s .args .buf .now) (c .before .before .to-front .last .0) (s .args .number) n (b .answer-block .result .left) (c .before .before .to-front .result)
+    (b .answer-block .result .number) _ (b .answer-block .result .over) (omega arith) (omega arith)
+    (b .answer-block .ensures .0) (c .before .before .before .before .if3 .left)
+    (c .before .before .to-front .ensures .0) (c .before .before .to-front .ensures .1)
 
 pub answer-spec : {M : Type 1} → statement M
 answer-spec =

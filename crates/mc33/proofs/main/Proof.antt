@@ -8,7 +8,7 @@ use Rattle.mc33.proofs.main.Statement.{statement}
 use Rattle.mc33.proofs.main.Tie as tie
 
 abbrev Inv-loop : tie.InvT-loop
-Inv-loop buf₀ out₀ state₀ turns₀ buf out state turns = (length buf ≡ 65536) × ((length out ≡ 65664) × (state .have ≤ 65536))
+Inv-loop buf₀ out₀ state₀ turns₀ buf out state turns = (length buf ≡ 65536) × ((length out ≡ 65664) × (state .have ≤ 81))
 
 abbrev μ-loop : tie.MeasureT-loop
 μ-loop buf₀ out₀ state₀ turns₀ buf out state turns = turns
