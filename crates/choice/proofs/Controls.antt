@@ -25,7 +25,7 @@ use Rattle.family_13.specs.Plans.{parts13, lastFrom, tile13, part13, plan13}
 use Rattle.families.specs.Tables.{«TEST_3», «TEST_4», «TEST_6», «TEST_7»}
 use Rattle.families.specs.Plans.{plan3, plan4, plan6, part7, plan7, plans, planOf}
 use Rattle.choice.specs.Choice.{choiceOf}
-use Rattle.choice.specs.Ranges.{readings, inRanges}
+use Rattle.choice.specs.Ranges.{readings, holdsMinus1, inRanges}
 
 record Test : Type 0 where
   case : ℤ
@@ -200,6 +200,9 @@ pasts =
     ∷ past 1 empty
     ∷ past 12 (noTiling 0 5)
     ∷ past 13 (noTiling 2 5)
+    -- SUB_CONFIG_13 holds 3, 45 and nothing
+    ∷ past 13 (noTiling 0 4)
+    ∷ past 13 (noTiling 1 63)
     ∷ past 13 (noTiling 0 64)
     ∷ past 1 (refused 0)
     ∷ past 1 (refused 4)
@@ -209,5 +212,5 @@ pasts =
     ∷ []
 
 pasts-hold : map (λ p. inRanges (p .case) (p .chosen)) pasts ≡ map (λ p. false) pasts
-unfolding pasts inRanges readings configurations tilingsOf columnsOf hasCentre
+unfolding pasts inRanges readings holdsMinus1 «SUB_CONFIG_13» configurations tilingsOf columnsOf hasCentre
 pasts-hold = refl

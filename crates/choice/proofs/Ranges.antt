@@ -28,7 +28,7 @@ use Rattle.families.specs.Tables.{«TEST_3», «TEST_4», «TEST_6», «TEST_7�
 use Rattle.families.specs.Plans.{plan3, plan4, plan6, part7, plan7, plans, planOf}
 use Rattle.families.proofs.Families.{of-a-case}
 use Rattle.choice.specs.Choice.{natOf, choiceOf, refusalOf, unsettledIn}
-use Rattle.choice.specs.Ranges.{readings, inRanges}
+use Rattle.choice.specs.Ranges.{readings, holdsMinus1, inRanges}
 use Rattle.choice.proofs.Refusals.{allFaces, isSeen, inside-seen}
 
 -- with `used` edge readings made, whatever the answers: what the plan leads to is in the ranges, and interior tests are made of faces alone
@@ -99,7 +99,7 @@ fitsAt : ℕ → ℕ → Bool
 fitsAt case c = fits case 0 (planOf case c)
 
 all-fit : T (allUnder 15 (λ case. allUnder (getD configurations case 0) (fitsAt case)))
-unfolding fitsAt fits inRanges readings tilingsOf configurations columnsOf hasCentre planOf plans plan3 plan4 plan6 part7 plan7 twoFaces plan10 plan12 parts13 lastFrom tile13 part13 plan13 askInTurn «TEST_3» «TEST_4» «TEST_6» «TEST_7» «TEST_10» «TEST_12» «TEST_13» «SUB_CONFIG_13»
+unfolding fitsAt fits inRanges readings holdsMinus1 tilingsOf configurations columnsOf hasCentre planOf plans plan3 plan4 plan6 part7 plan7 twoFaces plan10 plan12 parts13 lastFrom tile13 part13 plan13 askInTurn «TEST_3» «TEST_4» «TEST_6» «TEST_7» «TEST_10» «TEST_12» «TEST_13» «SUB_CONFIG_13»
 all-fit = tt
 
 plan-fits : (case c : ℕ) → c < getD configurations case 0 → T (fitsAt case c)

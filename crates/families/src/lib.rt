@@ -1,6 +1,8 @@
 // The cases of document 01, 'Choice': from a case and one of its configurations, together a family, to the choice. Inner
 // routines for the choice, which has tested the family and the cube. Public: `choose`, and `asks` with
 // `choose_plain`, by which a caller spares a case that asks nothing the longer way.
+// Callers make that test themselves: were it in one function that they share, the compiler would take
+// `choose` into it, and a case that asks nothing would go the longer way again.
 ghost use mathlib.Core.Path.{_≡_};
 ghost use mathlib.Core.Bool.{false};
 ghost use Prim.Native.Nat.{_<_};
@@ -76,6 +78,6 @@ pub fn choose(q: Cube, case: u8, c: u8) -> Choice
         10 => case_10(q, c),
         12 => case_12(q, c),
         13 => case_13(q, c),
-        _ => plain(first_tiling(case), c),
+        _ => choose_plain(q, case, c),
     }
 }

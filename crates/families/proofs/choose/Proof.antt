@@ -1,9 +1,8 @@
 -- `families::choose` follows the plan of its case.
-use mathlib.Core.Path.{_∙_}
 use borrow.Author.Needs.{needs}
 use Rattle.tilings.specs.Tilings.{configurations}
 use Rattle.families.specs.Plans.{plans, planOf}
-use Rattle.families.proofs.Families.{room, reached, plainly, not-asking}
+use Rattle.families.proofs.Families.{room, reached, not-asking}
 use Rattle.families.proofs.choose.Statement.{statement}
 use Rattle.families.proofs.choose.Tie as tie
 
@@ -19,8 +18,11 @@ choose-spec =
     (λ c κs. room (c .match .keys5) (c .before .pre))
     (λ c κs. room (c .match .keys6) (c .before .pre))
     (λ c κs. room (c .match .keys7) (c .before .pre))
-    (λ c κs. search needs)
-    (λ c κs. search needs)
+    (λ c κs.
+    let r = c .match .rest in (
+      c .before .pre,
+      not-asking _ (r .0 .0 .0 .0 .0 .0 .1) (r .0 .0 .0 .0 .0 .1) (r .0 .0 .0 .0 .1) (r .0 .0 .0 .1) (r .0 .0 .1) (r .0 .1) (r .1),
+    ))
     (λ c. reached (c .before .before .args .q) _ (c .before .match .keys1) (c .case-3 .ensures))
     (λ c. reached (c .before .before .args .q) _ (c .before .match .keys2) (c .case-4 .ensures))
     (λ c. reached (c .before .before .args .q) _ (c .before .match .keys3) (c .case-6 .ensures))
@@ -28,9 +30,4 @@ choose-spec =
     (λ c. reached (c .before .before .args .q) _ (c .before .match .keys5) (c .case-10 .ensures))
     (λ c. reached (c .before .before .args .q) _ (c .before .match .keys6) (c .case-12 .ensures))
     (λ c. reached (c .before .before .args .q) _ (c .before .match .keys7) (c .case-13 .ensures))
-    (λ c.
-    let r = c .before .before .match .rest in
-    c .plain .ensures
-    ∙ plainly _ _ _ (c .before .before .before .pre)
-    (not-asking _ (r .0 .0 .0 .0 .0 .0 .1) (r .0 .0 .0 .0 .0 .1) (r .0 .0 .0 .0 .1) (r .0 .0 .0 .1) (r .0 .0 .1) (r .0 .1) (r .1))
-    _ (c .before .first-tiling .ensures)))
+    (λ c. search needs))
