@@ -5,7 +5,7 @@ use mathlib.Core.List.{List, [], _∷_}
 use lib.IntN.{ℤ, pos, negsuc}
 use lib.Dec.{ltb}
 use lib.ListN.{getD}
-use lib.Ieee.{Float, binary32, sub}
+use lib.Ieee.{Float, binary32, add, sub, mul}
 use Rattle.edge.specs.declared.Moves.{Moves}
 use Rattle.edge.specs.Edge.{Told, Move, moves, moveOf, quotients, crossBy, readBy}
 use Rattle.binary32.specs.Numbers.{f32}
@@ -34,6 +34,12 @@ movesOf corner n =
 -- the reading of such moves
 unfoldable pub readOf : Moves → Told Float
 readOf m = readBy f32 quotients (m .u1) (m .u2) (m .u3) (m .u4) (m .g1) (m .g2) (m .g3) (m .g4)
+
+-- their product at t
+abbrev pub productOf : Moves → Float → Float
+productOf m t =
+    let w : Float → Float → Float = λ u g. add binary32 u (mul binary32 g t) in
+    sub binary32 (mul binary32 (w (m .u1) (m .g1)) (w (m .u3) (m .g3))) (mul binary32 (w (m .u2) (m .g2)) (w (m .u4) (m .g4)))
 
 unfoldable pub crossOf : Moves → Float → Told Float
 crossOf m t = crossBy f32 quotients (m .u1) (m .u2) (m .u3) (m .u4) (m .g1) (m .g2) (m .g3) (m .g4) t

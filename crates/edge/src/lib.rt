@@ -6,7 +6,7 @@ ghost use lib.Ieee.{binary32, add, mul};
 ghost use Rattle.binary32.specs.Numbers.{f32};
 ghost use Rattle.cube.specs.Corners.{valueAt};
 ghost use Rattle.edge.specs.Edge.{aOf, bOf, quotients, edgeBy, told, said, edgeReadingOf};
-ghost use Rattle.edge.specs.Columns.{placeOf, rowOf, movesOf, crossOf, readOf};
+ghost use Rattle.edge.specs.Columns.{placeOf, rowOf, movesOf, productOf, readOf};
 use cube::Cube;
 use cube::EdgeNo;
 use cube::Refusal;
@@ -111,34 +111,38 @@ pub fn place_at(u: f32, g: f32, t: f32) -> f32
     u + g * t
 }
 
-// The reading where t is within 0 and 1, or a NaN.
-fn cross(m: Moves, t: f32) -> Reading
-    ensures { λ r. ⌜ told r ≡ crossOf m t ⌝ }
+// product = w1×w3 - w2×w4, at t
+fn product_at(m: Moves, t: f32) -> f32
+    ensures { λ r. ⌜ r ≡ productOf m t ⌝ }
 {
     let w1 = place_at(m.u1, m.g1, t);
     let w2 = place_at(m.u2, m.g2, t);
     let w3 = place_at(m.u3, m.g3, t);
     let w4 = place_at(m.u4, m.g4, t);
-    let product = w1 * w3 - w2 * w4;
-    if product != product {
-        return Reading::Blank;
-    }
-    Reading::Crossed(t, product)
+    w1 * w3 - w2 * w4
 }
 
-// The reading of an edge's moves.
-fn read(m: Moves) -> Reading
+// The reading of an edge's moves. The first test asks all, so that nothing is computed behind a branch.
+pub fn read(m: Moves) -> Reading
     ensures { λ r. ⌜ told r ≡ readOf m ⌝ }
 {
     let a = a_of(m);
-    if a > 0.0 {
+    let t = -b_of(m) / (2.0 * a);
+    let product = product_at(m, t);
+    let rising = a > 0.0;
+    let beyond = (t < 0.0) | (t > 1.0);
+    let past = rising | beyond;
+    let blank = product != product;
+    if !(past | blank) {
+        return Reading::Crossed(t, product);
+    }
+    if !past {
+        return Reading::Blank;
+    }
+    if rising {
         return Reading::Rising;
     }
-    let t = -b_of(m) / (2.0 * a);
-    if (t < 0.0) | (t > 1.0) {
-        return Reading::Beyond(t);
-    }
-    cross(m, t)
+    Reading::Beyond(t)
 }
 
 // The reading of an edge by the corners' values.

@@ -13,7 +13,7 @@ use Rattle.edge.specs.Edge.{Told, rising, beyond, crossed, blank, Quotients, ed
 use Rattle.notes.specs.Notes.{total}
 use Rattle.interior.specs.Pick as Pick
 use Rattle.interior.specs.Pick.{Picked, edge, pickBy}
-use Rattle.interior.specs.Interior.{Look, seen, refused, joined, noteOf, seenAs, lookAt, insideBy, insideOf, counted}
+use Rattle.interior.specs.Interior.{Look, seen, refused, joined, noteOf, seenAs, lookBy, lookAt, insideBy, insideOf, counted}
 
 one-or-none : (b : Bool) → cond b 1 0 ≤ 1
 one-or-none true = lit≤ tt
@@ -33,7 +33,12 @@ module _ (K : Numbers) (D : Quotients K) where
   counted-reading (crossed t p) = one-or-none (D .nought p)
   counted-reading blank = lit≤ tt
 
-  pub counted-one : (corner : ℕ → K .N) (p : Picked) → counted (lookAt K D corner p) ≤ 1
+  pub counted-look : (p : Picked) (t : Told (D .Q)) → counted (lookBy p (seenAs K D t)) ≤ 1
+  unfolding lookBy seenAs
+  counted-look (edge z) t = counted-reading t
+  counted-look (Pick.refused n) t = lit≤ tt
+
+  counted-one : (corner : ℕ → K .N) (p : Picked) → counted (lookAt K D corner p) ≤ 1
   unfolding lookAt seenAs
   counted-one corner (edge z) = counted-reading (edgeBy K D corner z)
   counted-one corner (Pick.refused n) = lit≤ tt

@@ -1,5 +1,5 @@
 -- The interior test of one, two or three faces, from what is found at each. Assumes nothing.
-use mathlib.Core.Path.{_≡_, refl}
+use mathlib.Core.Path.{_≡_, refl, ap, _∙_}
 use mathlib.Core.Bool.{false}
 use mathlib.Core.List.{List, [], _∷_, map, foldr}
 use Prim.Native.Nat.{ℕ, _+_, _≤_}
@@ -9,30 +9,37 @@ use lib.Ieee.{Float}
 use Rattle.binary32.specs.Numbers.{f32}
 use Rattle.cube.specs.declared.Cube.{Cube}
 use Rattle.cube.specs.Corners.{corners, valueAt, cornerOf}
-use Rattle.edge.specs.Edge.{quotients}
+use Rattle.edge.specs.declared.Moves.{Moves}
+use Rattle.edge.specs.Edge.{Told, quotients}
+use Rattle.edge.specs.Columns.{movesOf, readOf}
 use Rattle.notes.specs.Notes.{noNotes}
 use Rattle.interior.specs.declared.Diagonals.{Diagonals}
-use Rattle.interior.specs.Pick.{pickWith, pickBy}
+use Rattle.interior.specs.Pick.{Picked, pickWith, pickBy, edgeIn}
 use Rattle.interior.specs.Diagonals.{diagonalsOf, heldBy}
-use Rattle.interior.specs.Interior.{Look, seen, lookAt, joined, insideBy, insideOf, counted}
-use Rattle.interior.proofs.Bounds.{counted-one, counted-joined}
+use Rattle.interior.specs.Interior.{Look, seen, seenAs, lookBy, lookAt, joined, insideBy, insideOf, counted}
+use Rattle.interior.proofs.Bounds.{counted-look, counted-joined}
 use Rattle.interior.proofs.Picks.{same-picks}
-use Rattle.interior.proofs.Sights.{joined-none}
+use Rattle.interior.proofs.Sights.{looked-at, joined-none}
+
+-- there is room to join two, and one to two that are joined
+module _ (p o : Picked) (t u : Told Float) (x y : Look) (ex : x ≡ lookBy p (seenAs f32 quotients t)) (ey : y ≡ lookBy o (seenAs f32 quotients u)) where
+  pub room-for-two : counted x + counted y ≤ 255
+  room-for-two = rw (ex, ey) (omega (arith, counted-look f32 quotients p t, counted-look f32 quotients o u))
+
+  pub room-for-three : (n : Picked) (v : Told Float) (z r : Look) → z ≡ lookBy n (seenAs f32 quotients v) → r ≡ joined x y → counted z + counted r ≤ 255
+  room-for-three n v z r ez er =
+      rw (er, ex, ey, ez)
+      (omega
+      (arith, counted-look f32 quotients p t, counted-look f32 quotients o u, counted-look f32 quotients n v, counted-joined (lookBy p (seenAs f32 quotients t)) (lookBy o (seenAs f32 quotients u))))
 
 module _ (vs : List Float) (d : Diagonals) where
   -- what the code looks at for a face
   abbrev at : ℕ → Look
   at n = lookAt f32 quotients (valueAt vs) (pickWith (heldBy d) n)
 
-  one-at : (n : ℕ) → counted (at n) ≤ 1
-  one-at n = counted-one f32 quotients (valueAt vs) (pickWith (heldBy d) n)
-
-  -- there is room to join two, and one to two that are joined
-  pub room-for-two : (k l : ℕ) (x y : Look) → x ≡ at k → y ≡ at l → counted x + counted y ≤ 255
-  room-for-two k l x y ex ey = rw (ex, ey) (omega (arith, one-at k, one-at l))
-
-  pub room-for-three : (k l m : ℕ) (x y z r : Look) → x ≡ at k → y ≡ at l → z ≡ at m → r ≡ joined y z → counted x + counted r ≤ 255
-  room-for-three k l m x y z r ex ey ez er = rw (er, ex, ey, ez) (omega (arith, one-at k, one-at l, one-at m, counted-joined (at l) (at m)))
+  pub found-at : (k : ℕ) (p : Picked) (m : Moves) (x : Look)
+      → p ≡ pickWith (heldBy d) k → m ≡ movesOf (valueAt vs) (edgeIn p) → x ≡ lookBy p (seenAs f32 quotients (readOf m)) → x ≡ at k
+  found-at k p m x ep em ex = looked-at (valueAt vs) p m x em ex ∙ ap (lookAt f32 quotients (valueAt vs)) ep
 
   module _ (q : Cube) (s : ℤ) (ev : vs ≡ corners q) (ed : d ≡ diagonalsOf q s) where
     same-look : (n : ℕ) → at n ≡ lookAt f32 quotients (cornerOf q) (pickBy f32 (cornerOf q) s n)

@@ -10,8 +10,10 @@ use Rattle.cube.specs.declared.EdgeNo.{EdgeNo}
 use Rattle.cube.specs.declared.Refusal.{Refusal}
 use Rattle.cube.specs.Refusals.{refusalNumber}
 use Rattle.edge.specs.declared.Reading.{Reading}
-use Rattle.edge.specs.declared.Reading.the-variants.{Rising, Beyond, Crossed, Blank}
-use Rattle.edge.specs.Edge.{Told, crossed, quotients, edgeBy, told}
+use Rattle.edge.specs.declared.Reading.the-variants.{Crossed}
+use Rattle.edge.specs.Edge.{Told, crossed, quotients, valued, edgeBy, told}
+use Rattle.edge.specs.declared.Moves.{Moves}
+use Rattle.edge.specs.Columns.{movesOf, readOf}
 use Rattle.notes.specs.declared.Notes.{Notes}
 use Rattle.notes.specs.Notes.{noNotes, added, total}
 use Rattle.interior.specs.declared.Sight.{Sight}
@@ -20,8 +22,9 @@ use Rattle.interior.specs.declared.Found.the-variants.{Seen, Refused}
 use Rattle.interior.specs.declared.Pick.{Pick}
 use Rattle.interior.specs.declared.Pick.the-variants as variants
 use Rattle.interior.specs.declared.Pick.the-variants.{Edge}
-use Rattle.interior.specs.Pick.{Picked, picked}
-use Rattle.interior.specs.Interior.{Look, seen, refused, noteOf, seenAs, lookAt, joined, counted, looked}
+use Rattle.interior.specs.Pick.{Picked, edge, edgeIn, picked}
+use Rattle.interior.specs.Pick as Pick
+use Rattle.interior.specs.Interior.{Look, seen, refused, noteOf, seenAs, lookBy, lookAt, joined, counted, looked}
 
 -- ---- one reading
 byte-of : (b : Bool) → boolByte b ≡ cond b 1 0
@@ -32,32 +35,33 @@ pub noted : (p : Float) → _≡_ {A = Notes} (record { unsettled = boolByte (eq
 unfolding noteOf ofBits
 noted p = rw byte-of
 
-module _ (r : Reading) (m : Notes) where
-  pub rising-seen : r ≡ Rising → m ≡ noNotes → seen true m ≡ seenAs f32 quotients (told r)
-  unfolding seenAs noteOf
-  rising-seen e n = rw (e, n)
+-- what holds of the case that a reading is
+pub as-told : {A : Type 0} (f : Told Float → A) (r s : Reading) (x : A) → r ≡ s → x ≡ f (told s) → x ≡ f (told r)
+as-told f r s x e h = rw e h
 
-  pub beyond-seen : (t : Float) → r ≡ Beyond t → m ≡ noNotes → seen true m ≡ seenAs f32 quotients (told r)
-  unfolding seenAs noteOf
-  beyond-seen t e n = rw (e, n)
+pub below-valued : (r : Reading) (t p : Float) → r ≡ Crossed t p → lt p (ofBits binary32 0) ≡ valued f32 quotients (told r)
+unfolding ofBits
+below-valued r t p e = rw e
 
-  pub crossed-seen : (t p : Float) → r ≡ Crossed t p → m ≡ noteOf f32 quotients (crossed p p) → seen (lt p (ofBits binary32 0)) m ≡ seenAs f32 quotients (told r)
-  unfolding seenAs noteOf ofBits
-  crossed-seen t p e n = rw (e, n)
-
-  pub blank-seen : r ≡ Blank → m ≡ noNotes → seen false m ≡ seenAs f32 quotients (told r)
-  unfolding seenAs noteOf
-  blank-seen e n = rw (e, n)
+pub seen-as : (r : Reading) (b : Bool) (m : Notes) → b ≡ valued f32 quotients (told r) → m ≡ noteOf f32 quotients (told r) → seen b m ≡ seenAs f32 quotients (told r)
+unfolding seenAs
+seen-as r b m e n = rw (e, n)
 
 -- ---- the reading at the edge picked
-module _ (corner : ℕ → Float) (p : Picked) (r : Pick) (h : picked r ≡ p) where
-  pub seen-at-edge : (e : EdgeNo) (t : Told Float) (x : Look) → r ≡ Edge e → t ≡ edgeBy f32 quotients corner (e .0) → x ≡ seenAs f32 quotients t → x ≡ lookAt f32 quotients corner p
-  unfolding lookAt
-  seen-at-edge e t x re te xe = rw (← h, re, ← te, xe)
+module _ (r : Pick) where
+  pub seen-at-edge : (e : EdgeNo) (t u : Told Float) (x : Look) → r ≡ Edge e → t ≡ u → x ≡ seenAs f32 quotients t → x ≡ lookBy (picked r) (seenAs f32 quotients u)
+  unfolding lookBy
+  seen-at-edge e t u x re te xe = rw (re, ← te, xe)
 
-  pub none-picked : (why : Refusal) → r ≡ variants.Refused why → refused (refusalNumber why) ≡ lookAt f32 quotients corner p
-  unfolding lookAt
-  none-picked why re = rw (← h, re)
+  pub none-picked : (why : Refusal) (y : Look) → r ≡ variants.Refused why → refused (refusalNumber why) ≡ lookBy (picked r) y
+  unfolding lookBy
+  none-picked why y re = rw re
+
+pub looked-at : (corner : ℕ → Float) (p : Picked) (m : Moves) (x : Look)
+    → m ≡ movesOf corner (edgeIn p) → x ≡ lookBy p (seenAs f32 quotients (readOf m)) → x ≡ lookAt f32 quotients corner p
+unfolding lookBy lookAt edgeBy movesOf readOf
+looked-at corner (edge n) m x em ex = rw (ex, em)
+looked-at corner (Pick.refused n) m x em ex = ex
 
 -- ---- two joined
 pub seen-both : (a b : Bool) (m n k : Notes) → k ≡ added m n → seen (a || b) k ≡ joined (seen a m) (seen b n)

@@ -5,16 +5,18 @@ ghost use Prim.Native.Nat.{_+_, _≤_};
 ghost use mathlib.Core.List.{[], _∷_};
 ghost use Rattle.binary32.specs.Numbers.{f32};
 ghost use Rattle.cube.specs.Corners.{valueAt};
-ghost use Rattle.edge.specs.Edge.{crossed, quotients, told};
+ghost use Rattle.edge.specs.Edge.{crossed, quotients, valued, told};
+ghost use Rattle.edge.specs.Columns.{movesOf, readOf};
 ghost use Rattle.notes.specs.Notes.{total};
-ghost use Rattle.interior.specs.Pick.{pickWith, picked};
+ghost use Rattle.interior.specs.Pick.{pickWith, edgeIn, picked};
 ghost use Rattle.interior.specs.Diagonals.{diagonalsOf, heldBy, setOf, edgesOf};
-ghost use Rattle.interior.specs.Interior.{seen, noteOf, seenAs, lookAt, joined, counted, insideOf, looked};
+ghost use Rattle.interior.specs.Interior.{seen, noteOf, seenAs, lookBy, joined, counted, insideOf, looked};
 use cube::Cube;
 use cube::EdgeNo;
 use cube::Refusal;
 use cube::bits::bit;
 use cube::bits::three;
+use edge::Moves;
 use edge::Reading;
 use notes::Notes;
 
@@ -103,36 +105,63 @@ fn unsettled_by(product: f32) -> Notes
     }
 }
 
+// Whether a reading's value is 1.
+fn value_of(r: Reading) -> bool
+    ensures { λ x. ⌜ x ≡ valued f32 quotients (told r) ⌝ }
+{
+    match r {
+        Reading::Rising => true,
+        Reading::Beyond(_) => true,
+        Reading::Crossed(_, product) => product < 0.0,
+        Reading::Blank => false,
+    }
+}
+
+// What a reading counts.
+fn note_of(r: Reading) -> Notes
+    ensures { λ x. ⌜ x ≡ noteOf f32 quotients (told r) ⌝ }
+{
+    match r {
+        Reading::Rising => notes::none(),
+        Reading::Beyond(_) => notes::none(),
+        Reading::Crossed(_, product) => unsettled_by(product),
+        Reading::Blank => notes::none(),
+    }
+}
+
 // What a reading says: a value of 1, and a product equal to zero is unsettled.
 fn sight_of(r: Reading) -> Sight
     ensures { λ x. ⌜ seen (x .hit) (x .notes) ≡ seenAs f32 quotients (told r) ⌝ }
 {
-    match r {
-        Reading::Rising => Sight {
-            hit: true,
-            notes: notes::none(),
-        },
-        Reading::Beyond(_) => Sight {
-            hit: true,
-            notes: notes::none(),
-        },
-        Reading::Crossed(_, product) => Sight {
-            hit: product < 0.0,
-            notes: unsettled_by(product),
-        },
-        Reading::Blank => Sight {
-            hit: false,
-            notes: notes::none(),
-        },
+    Sight {
+        hit: value_of(r),
+        notes: note_of(r),
     }
 }
 
-// What is read at the edge that is picked for a face.
-fn look(values: &[f32; 8], d: Diagonals, face: AmbiguousFace) -> Found
-    ensures { λ r. ⌜ looked r ≡ lookAt f32 quotients (valueAt (now (values .entry))) (pickWith (heldBy d) (face .0)) ⌝ }
+// The edge that is picked, and edge 0 where none is.
+fn edge_in(p: Pick) -> EdgeNo
+    ensures { λ r. ⌜ r .0 ≡ edgeIn (picked p) ⌝ }
 {
-    match interior_ambiguity(d, face) {
-        Pick::Edge(e) => Found::Seen(sight_of(edge::reading_of(values, e))),
+    match p {
+        Pick::Edge(e) => e,
+        Pick::Refused(_) => EdgeNo(0),
+    }
+}
+
+// Its moves.
+fn moves_at(values: &[f32; 8], p: Pick) -> Moves
+    ensures { λ r. ⌜ r ≡ movesOf (valueAt (now (values .entry))) (edgeIn (picked p)) ⌝ }
+{
+    edge::moves_of(values, edge_in(p))
+}
+
+// What is read by the moves of the edge that is picked.
+fn look(p: Pick, m: Moves) -> Found
+    ensures { λ r. ⌜ looked r ≡ lookBy (picked p) (seenAs f32 quotients (readOf m)) ⌝ }
+{
+    match p {
+        Pick::Edge(_) => Found::Seen(sight_of(edge::read(m))),
         Pick::Refused(why) => Found::Refused(why),
     }
 }
@@ -166,7 +195,8 @@ pub fn test_interior(q: Cube, k: AmbiguousFace, side: Side) -> Found
     ensures { λ r. ⌜ looked r ≡ insideOf q (k .0 ∷ []) (side .0) ⌝ }
 {
     let values = cube::values(q);
-    look(&values, diagonals_of(q, side), k)
+    let p = interior_ambiguity(diagonals_of(q, side), k);
+    look(p, moves_at(&values, p))
 }
 
 // For two faces, of case 12. All readings are made.
@@ -175,7 +205,9 @@ pub fn test_interior_two(q: Cube, k: AmbiguousFace, l: AmbiguousFace, side: Side
 {
     let values = cube::values(q);
     let d = diagonals_of(q, side);
-    join(look(&values, d, k), look(&values, d, l))
+    let p = interior_ambiguity(d, k);
+    let o = interior_ambiguity(d, l);
+    join(look(p, moves_at(&values, p)), look(o, moves_at(&values, o)))
 }
 
 // For faces 1, 2 and 5, of cases 4 and 7. All readings are made.
@@ -184,9 +216,12 @@ pub fn test_interior_three(q: Cube, side: Side) -> Found
 {
     let values = cube::values(q);
     let d = diagonals_of(q, side);
+    let p1 = interior_ambiguity(d, AmbiguousFace(1));
+    let p2 = interior_ambiguity(d, AmbiguousFace(2));
+    let p5 = interior_ambiguity(d, AmbiguousFace(5));
     let rest = join(
-        look(&values, d, AmbiguousFace(2)),
-        look(&values, d, AmbiguousFace(5)),
+        look(p2, moves_at(&values, p2)),
+        look(p5, moves_at(&values, p5)),
     );
-    join(look(&values, d, AmbiguousFace(1)), rest)
+    join(look(p1, moves_at(&values, p1)), rest)
 }

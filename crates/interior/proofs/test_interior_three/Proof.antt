@@ -1,6 +1,6 @@
 -- `interior::test_interior_three` is `insideOf` faces 1, 2 and 5.
 use borrow.Author.Needs.{needs}
-use Rattle.interior.proofs.Insides.{room-for-two, room-for-three, three-faces}
+use Rattle.interior.proofs.Insides.{found-at, room-for-two, room-for-three, three-faces}
 use Rattle.interior.proofs.test_interior_three.Statement.{statement}
 use Rattle.interior.proofs.test_interior_three.Tie as tie
 
@@ -10,8 +10,23 @@ values-requires c κs = search needs
 diagonals-of-requires : tie.Need-diagonals-of-requires
 diagonals-of-requires c κs = search needs
 
+interior-ambiguity-requires : tie.Need-interior-ambiguity-requires
+interior-ambiguity-requires c κs = search needs
+
+interior-ambiguity-requires-2 : tie.Need-interior-ambiguity-requires-2
+interior-ambiguity-requires-2 c κs = search needs
+
+interior-ambiguity-requires-3 : tie.Need-interior-ambiguity-requires-3
+interior-ambiguity-requires-3 c κs = search needs
+
+moves-at-requires : tie.Need-moves-at-requires
+moves-at-requires c κs = search needs
+
 look-requires : tie.Need-look-requires
 look-requires c κs = search needs
+
+moves-at-requires-2 : tie.Need-moves-at-requires-2
+moves-at-requires-2 c κs = search needs
 
 look-requires-2 : tie.Need-look-requires-2
 look-requires-2 c κs = search needs
@@ -19,16 +34,25 @@ look-requires-2 c κs = search needs
 join-requires : tie.Need-join-requires
 join-requires c κs = search room-for-two
 
+moves-at-requires-3 : tie.Need-moves-at-requires-3
+moves-at-requires-3 c κs = search needs
+
 look-requires-3 : tie.Need-look-requires-3
 look-requires-3 c κs = search needs
 
 join-requires-2 : tie.Need-join-requires-2
-join-requires-2 c κs =
-    let c2 = c .before .before in
-    search (room-for-three, c .look3 .ensures, c2 .join .ensures, c2 .before .look2 .ensures, c2 .before .before .before .look .ensures)
+join-requires-2 c κs = search room-for-three
 
 returns : tie.Need-returns
-returns c = search three-faces
+returns c =
+    let c1 = c .before .before .before .before in
+    let c2 = c1 .before .before .before .before in
+    let c3 = c2 .before .before .before in
+    let one = found-at _ _ 1 _ _ _ (c3 .before .before .interior-ambiguity .ensures) (c .before .before .moves-at3 .ensures) (c .before .look3 .ensures) in
+    let two = found-at _ _ 2 _ _ _ (c3 .before .interior-ambiguity2 .ensures) (c2 .before .moves-at .ensures) (c2 .look .ensures) in
+    let five = found-at _ _ 5 _ _ _ (c3 .interior-ambiguity3 .ensures) (c1 .before .before .moves-at2 .ensures) (c1 .before .look2 .ensures) in
+    let c4 = c3 .before .before .before in
+    three-faces _ _ _ _ (c4 .before .values .ensures) (c4 .diagonals-of .ensures) 1 2 5 _ _ _ _ _ one two five (c1 .join .ensures) (c .join2 .ensures)
 
 pub test-interior-three-spec : {M : Type 1} → statement M
 test-interior-three-spec =
@@ -36,9 +60,15 @@ test-interior-three-spec =
     (tie.spec
     values-requires
     diagonals-of-requires
+    interior-ambiguity-requires
+    interior-ambiguity-requires-2
+    interior-ambiguity-requires-3
+    moves-at-requires
     look-requires
+    moves-at-requires-2
     look-requires-2
     join-requires
+    moves-at-requires-3
     look-requires-3
     join-requires-2
     returns)

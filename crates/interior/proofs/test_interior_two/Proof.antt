@@ -1,6 +1,6 @@
 -- `interior::test_interior_two` is `insideOf` two faces.
 use borrow.Author.Needs.{needs}
-use Rattle.interior.proofs.Insides.{room-for-two, two-faces}
+use Rattle.interior.proofs.Insides.{found-at, room-for-two, two-faces}
 use Rattle.interior.proofs.test_interior_two.Statement.{statement}
 use Rattle.interior.proofs.test_interior_two.Tie as tie
 
@@ -10,8 +10,20 @@ values-requires c κs = search needs
 diagonals-of-requires : tie.Need-diagonals-of-requires
 diagonals-of-requires c κs = search needs
 
+interior-ambiguity-requires : tie.Need-interior-ambiguity-requires
+interior-ambiguity-requires c κs = search needs
+
+interior-ambiguity-requires-2 : tie.Need-interior-ambiguity-requires-2
+interior-ambiguity-requires-2 c κs = search needs
+
+moves-at-requires : tie.Need-moves-at-requires
+moves-at-requires c κs = search needs
+
 look-requires : tie.Need-look-requires
 look-requires c κs = search needs
+
+moves-at-requires-2 : tie.Need-moves-at-requires-2
+moves-at-requires-2 c κs = search needs
 
 look-requires-2 : tie.Need-look-requires-2
 look-requires-2 c κs = search needs
@@ -20,7 +32,7 @@ join-requires : tie.Need-join-requires
 join-requires c κs = search room-for-two
 
 returns : tie.Need-returns
-returns c = search two-faces
+returns c = search (two-faces, found-at)
 
 pub test-interior-two-spec : {M : Type 1} → statement M
 test-interior-two-spec =
@@ -28,7 +40,11 @@ test-interior-two-spec =
     (tie.spec
     values-requires
     diagonals-of-requires
+    interior-ambiguity-requires
+    interior-ambiguity-requires-2
+    moves-at-requires
     look-requires
+    moves-at-requires-2
     look-requires-2
     join-requires
     returns)
