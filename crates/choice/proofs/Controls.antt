@@ -12,7 +12,7 @@ use Rattle.cube.specs.declared.Cube.{Cube}
 use Rattle.cube.specs.Corners.{corners, valueAt, cornerOf, allFinite, cube}
 use Rattle.face.specs.Face.{faceCorners, faceCorner, rule, faceBy, faceOf}
 use Rattle.edge.specs.Edge.{moves, moveOf, crossBy, readBy, edgeBy}
-use Rattle.edge.specs.Columns.{movesOf}
+use Rattle.edge.specs.Moves.{movesOf}
 use Rattle.interior.specs.Pick.{diagonals, lastMatch, pickWith, pickBy}
 use Rattle.interior.specs.Interior.{joined, noteOf, seenAs, lookAt, insideBy, insideOf}
 use Rattle.thirteen.specs.Thirteen.{bothWithin, falseOnly, case13By, case13Of}

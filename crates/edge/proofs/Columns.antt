@@ -14,7 +14,8 @@ use Rattle.cube.specs.Corners.{digitOf, valueAt}
 use Rattle.cube.proofs.Table.{allUnder, under}
 use Rattle.edge.specs.declared.Moves.{Moves}
 use Rattle.edge.specs.Edge.{Move, _⟶_, moves, moveOf}
-use Rattle.edge.specs.Columns.{placeOf, packed, rowOf, movesOf}
+use Rattle.edge.specs.Columns.{placeOf, packed, rowOf}
+use Rattle.edge.specs.Moves.{movesOf}
 
 -- move j + 1 as a number has it, and as the row of a place does
 abbrev digits : ℕ → ℕ → Move

@@ -7,7 +7,7 @@ use lib.Ieee.{Float, nan, inf, fin, binary32, up, down, neg, add, sub, mul, div,
 use Rattle.binary32.specs.Numbers.{f32}
 use Rattle.edge.specs.declared.Moves.{Moves}
 use Rattle.edge.specs.Edge.{Told, rising, beyond, crossed, blank, aOf, bOf, crossBy, readBy}
-use Rattle.edge.specs.Columns.{productOf, readOf}
+use Rattle.edge.specs.Moves.{productOf, readOf}
 
 -- a move's place at t
 abbrev pub placeAt : Float → Float → Float → Float

@@ -46,7 +46,7 @@ unfoldable pub moveOf : ℤ → ℕ → Move
 moveOf (pos n) k = getD (getD moves n []) k (0 ⟶ 0)
 moveOf (negsuc n) k = 0 ⟶ 0
 
--- one of four things
+-- a reading: rising, beyond with its t, crossed with t and product, or blank
 pub data Told (Q : Type 0) : Type 0 where
   rising : Told Q
   beyond : Q → Told Q

@@ -1,2 +1,3 @@
 pub mod Columns
 pub mod Edge
+pub mod Moves

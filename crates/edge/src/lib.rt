@@ -1,18 +1,20 @@
 // The edge reading: document 01, 'Edge reading'. Public: `interior_ambiguity_verification`, which
-// refuses, and `reading_of`, the reading alone, for callers that have tested their cube and edge; the
-// moves of an edge with a and b, which the case-13 test needs too.
+// refuses; for callers that have tested their cube and edge `moves_of`, the moves of an edge, and `read`, what is
+// read by them; and `a_of`, `b_of` and `place_at`, which the case-13 test needs too.
 ghost use mathlib.Core.Path.{_≡_};
 ghost use lib.Ieee.{binary32, add, mul};
 ghost use Rattle.binary32.specs.Numbers.{f32};
 ghost use Rattle.cube.specs.Corners.{valueAt};
 ghost use Rattle.edge.specs.Edge.{aOf, bOf, quotients, edgeBy, told, said, edgeReadingOf};
-ghost use Rattle.edge.specs.Columns.{placeOf, rowOf, movesOf, productOf, readOf};
+ghost use Rattle.edge.specs.Columns.{placeOf, rowOf};
+ghost use Rattle.edge.specs.Moves.{movesOf, productOf, readOf};
 use cube::Cube;
 use cube::EdgeNo;
 use cube::Refusal;
 use cube::Split;
 
-// What is read at an edge, with t and the product where it came so far.
+// What is read at an edge: `Rising` where a > 0, `Beyond` with t where t < 0 or t > 1, `Crossed` with t and the
+// product, or `Blank` where t or the product is NaN.
 pub enum Reading {
     Rising,
     Beyond(f32),

@@ -11,7 +11,7 @@ use Rattle.cube.specs.declared.Cube.{Cube}
 use Rattle.cube.specs.Corners.{corners, valueAt, cornerOf}
 use Rattle.edge.specs.declared.Moves.{Moves}
 use Rattle.edge.specs.Edge.{Told, quotients}
-use Rattle.edge.specs.Columns.{movesOf, readOf}
+use Rattle.edge.specs.Moves.{movesOf, readOf}
 use Rattle.notes.specs.Notes.{noNotes}
 use Rattle.interior.specs.declared.Diagonals.{Diagonals}
 use Rattle.interior.specs.Pick.{Picked, pickWith, pickBy, edgeIn}

@@ -13,7 +13,7 @@ use Rattle.edge.specs.declared.Reading.{Reading}
 use Rattle.edge.specs.declared.Reading.the-variants.{Crossed}
 use Rattle.edge.specs.Edge.{Told, crossed, quotients, valued, edgeBy, told}
 use Rattle.edge.specs.declared.Moves.{Moves}
-use Rattle.edge.specs.Columns.{movesOf, readOf}
+use Rattle.edge.specs.Moves.{movesOf, readOf}
 use Rattle.notes.specs.declared.Notes.{Notes}
 use Rattle.notes.specs.Notes.{noNotes, added, total}
 use Rattle.interior.specs.declared.Sight.{Sight}

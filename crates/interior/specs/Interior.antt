@@ -1,4 +1,5 @@
--- Document 01, 'Interior test', over any kind of number. Definitions only.
+-- Document 01, 'Interior test', over any kind of number: the readings for given ambiguous faces and s. Which faces and which sign a case
+-- takes is in its plan (`families`, `two_faces`). Definitions only.
 use Prim.Native.Nat.{ℕ}
 use mathlib.Core.Bool.{Bool, false, cond, _||_}
 use mathlib.Core.List.{List, map, foldr}
@@ -54,6 +55,7 @@ module _ (K : Numbers) (D : Quotients K) where
   unfoldable pub insideBy : (ℕ → N) → List ℕ → ℤ → Look
   insideBy corner faces s = foldr joined (seen false noNotes) (map (λ n. lookAt corner (pickBy K corner s n)) faces)
 
+-- the interior test of a cube, by the ambiguous faces and s
 unfoldable pub insideOf : Cube → List ℕ → ℤ → Look
 insideOf q faces s = insideBy f32 quotients (cornerOf q) faces s
 

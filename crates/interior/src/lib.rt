@@ -1,12 +1,13 @@
 // The diagonal pick and the interior test: document 01, 'Diagonal pick' and 'Interior test'. Inner
-// routines for the choice, which has tested its cube.
+// routines for the choice, which has tested its cube. Public: `test_interior`, `test_interior_two`,
+// `test_interior_three`.
 ghost use mathlib.Core.Path.{_≡_};
 ghost use Prim.Native.Nat.{_+_, _≤_};
 ghost use mathlib.Core.List.{[], _∷_};
 ghost use Rattle.binary32.specs.Numbers.{f32};
 ghost use Rattle.cube.specs.Corners.{valueAt};
 ghost use Rattle.edge.specs.Edge.{crossed, quotients, valued, told};
-ghost use Rattle.edge.specs.Columns.{movesOf, readOf};
+ghost use Rattle.edge.specs.Moves.{movesOf, readOf};
 ghost use Rattle.notes.specs.Notes.{total};
 ghost use Rattle.interior.specs.Pick.{pickWith, edgeIn, picked};
 ghost use Rattle.interior.specs.Diagonals.{diagonalsOf, heldBy, setOf, edgesOf};
@@ -38,6 +39,7 @@ pub struct Sight {
     pub notes: Notes,
 }
 
+// What an interior test finds.
 pub enum Found {
     Seen(Sight),
     Refused(Refusal),
@@ -85,7 +87,7 @@ fn edges(n: u32) -> u64
     }
 }
 
-// The diagonal pick, from the pairs that match.
+// The diagonal pick, from the pairs that match: with those of `diagonals_of`, document 01's.
 fn interior_ambiguity(d: Diagonals, face: AmbiguousFace) -> Pick
     ensures { λ r. ⌜ picked r ≡ pickWith (heldBy d) (face .0) ⌝ }
 {

@@ -9,7 +9,7 @@ use Rattle.root.specs.Root.{rootWithin, wholeRoot, rootUnits, rootOf}
 use Rattle.cube.specs.declared.Cube.{Cube}
 use Rattle.cube.specs.Corners.{corners, valueAt, cornerOf, cube}
 use Rattle.edge.specs.Edge.{moves, moveOf}
-use Rattle.edge.specs.Columns.{movesOf}
+use Rattle.edge.specs.Moves.{movesOf}
 use Rattle.thirteen.specs.Thirteen.{bothWithin, falseOnly, case13By, case13Of}
 
 -- 1, 2, -1 and -2

@@ -10,7 +10,7 @@ use Rattle.cube.specs.declared.Cube.{Cube}
 use Rattle.cube.specs.Corners.{corners, valueAt, cornerOf}
 use Rattle.edge.specs.declared.Moves.{Moves}
 use Rattle.edge.specs.Edge.{aOf, bOf, moves, moveOf}
-use Rattle.edge.specs.Columns.{movesOf}
+use Rattle.edge.specs.Moves.{movesOf}
 use Rattle.thirteen.specs.Thirteen.{falseOnly, case13By, case13Of}
 
 -- 4 has the bits 0x40800000

@@ -9,7 +9,7 @@ use Rattle.cube.specs.declared.Cube.{Cube}
 use Rattle.cube.specs.Corners.{cornerOf}
 use Rattle.edge.specs.declared.Moves.{Moves}
 use Rattle.edge.specs.Edge.{aOf, bOf, nil, one}
-use Rattle.edge.specs.Columns.{movesOf}
+use Rattle.edge.specs.Moves.{movesOf}
 
 -- 4
 abbrev pub four : Float

@@ -2,7 +2,7 @@
 use mathlib.Core.Path.{ap, _∙_}
 use borrow.Author.Needs.{needs}
 use Rattle.edge.specs.Edge.{edgeBy}
-use Rattle.edge.specs.Columns.{movesOf, readOf}
+use Rattle.edge.specs.Moves.{movesOf, readOf}
 use Rattle.edge.proofs.reading_of.Statement.{statement}
 use Rattle.edge.proofs.reading_of.Tie as tie
 

@@ -1,7 +1,7 @@
 -- `interior::moves_at` has the moves of the edge that is picked.
 use mathlib.Core.Path.{ap, _∙_}
 use borrow.Author.Needs.{needs}
-use Rattle.edge.specs.Columns.{movesOf}
+use Rattle.edge.specs.Moves.{movesOf}
 use Rattle.interior.proofs.moves_at.Statement.{statement}
 use Rattle.interior.proofs.moves_at.Tie as tie
 
