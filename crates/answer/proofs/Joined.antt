@@ -1,12 +1,12 @@
 -- Texts put one after another: five fields, and the line of a refusal. Assumes nothing.
-use mathlib.Core.Path.{_≡_, ap, _∙_, subst}
+use mathlib.Core.Path.{_≡_, subst}
 use mathlib.Core.List.{List, [], _∷_, _++_, append-assoc}
 use Prim.Native.Nat.{ℕ, _+_, _≤_, _<_, _^_}
 use native.Mathlib.Omega.{arith}
 use lib.ListN.{length, length-append}
 use Rattle.put.specs.Placed.{placed}
 use Rattle.put.specs.Decimal.{decimal}
-use Rattle.put.proofs.Placed.{placed-twice}
+use Rattle.put.proofs.Placed.{placed-after}
 use Rattle.put.proofs.Digits.{decimal-long}
 use Rattle.answer.specs.Answer.{fields, refusedWord, refusedLine}
 
@@ -25,10 +25,7 @@ pub joined : (xs : List ℕ) (at : ℕ) (text ys : List ℕ) (i : ℕ) (more zs 
 joined xs at text ys i more zs r room (e, p) (f, q) =
     let long = length-append text more in (
       omega (arith, e, f),
-      q
-          ∙ ap (λ (k : ℕ). placed ys k more) e
-          ∙ ap (λ (l : List ℕ). placed l (at + length text) more) p
-          ∙ placed-twice xs at text more (omega (arith, e, f)),
+      placed-after xs at text ys i more zs (omega (arith, e, f)) e p q,
     )
 
 pub field-put : (xs : List ℕ) (at n : ℕ) (ys : List ℕ) (i after : ℕ) (zs : List ℕ) (r : ℕ) → at + 4 ≤ length xs

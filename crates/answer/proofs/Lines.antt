@@ -1,13 +1,13 @@
 -- The reply to a line of the input, by the tests as they are made. Assumes nothing.
-use mathlib.Core.Path.{_≡_, refl, sym, _∙_}
+use mathlib.Core.Path.{_≡_, sym, _∙_}
 use mathlib.Core.Bool.{Bool, true, false}
 use mathlib.Core.List.{List}
 use Prim.Native.Nat.{ℕ, _≤_, _<_}
+use native.Mathlib.Nat.{lt-of-not-le}
 use native.Mathlib.Omega.{arith}
-use lib.Dec.{leb}
 use lib.IntN.{ℤ}
 use lib.ListN.{length}
-use borrow.Author.Tests.{le-leb, lt-leb, leb-true, leb-false}
+use borrow.Author.Tests.{le-leb, lt-leb}
 use Rattle.cube.specs.declared.Cube.{Cube}
 use Rattle.tilings.specs.declared.Choice.{Choice}
 use Rattle.tilings.specs.Answers.{chosen}
@@ -34,10 +34,10 @@ module _ (number : ℕ) (line : List ℕ) where
   unfolding inputNames
   names-length named e t = equal-lengths line inputNames (sym e ∙ t)
 
-  given-length : (k c : ℤ) (q : Cube) → parseLine line ≡ Given k c q → (b : Bool) → leb 75 (length line) ≡ b → 75 ≤ length line
-  given-length k c q g true t = leb-true 75 (length line) t
-  given-length k c q g false t =
-      let m = short line (leb-false 75 (length line) t) in
+  given-length : (k c : ℤ) (q : Cube) → parseLine line ≡ Given k c q → 74 < length line
+  given-length k c q g =
+      lt-of-not-le λ (h : length line ≤ 74).
+      let m = short line (omega arith) in
       let z : _≡_ {A = ℕ} 0 1 = cc in
       omega arith
 
@@ -56,5 +56,5 @@ module _ (number : ℕ) (line : List ℕ) where
         → Answered number (replyTo number line) (length line) xs at ys i over
     cube-answered k c y z q g f h r s xs at ys i over (place, (end, (text, (top, room)))) =
         let reply = cube-reply k c y z q g f h r s in
-        let long = given-length k c q (sym e ∙ g) (leb 75 (length line)) refl in
+        let long = given-length k c q (sym e ∙ g) in
         rw reply (place, (end, (text, (top, λ n. let short = room n in omega arith))))

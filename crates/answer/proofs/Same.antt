@@ -1,32 +1,26 @@
 -- Two lists held against each other element by element. Assumes nothing.
 use mathlib.Core.Path.{_≡_, refl, ap}
-use mathlib.Core.Bool.{Bool, true, false, _&&_}
+use mathlib.Core.Bool.{true, false, _&&_}
 use mathlib.Core.List.{List, [], _∷_}
 use Prim.Native.Nat.{ℕ, suc, _+_, _≤_, _<_}
 use native.Mathlib.Numerals.{add-one}
-use lib.Dec.{eqb}
+use lib.Dec.{eqb, not-T}
+use lib.Ieee.Bits.{is-true, is-false}
 use lib.ListN.{length, getD, drop, drop-of-length-le}
 use lib.Seq.{drop-cons}
 use borrow.Author.Tests.{eq-eqb, ne-eqb}
+use Rattle.hex.proofs.Digits.{second}
 use Rattle.answer.specs.Answer.{same}
-
-tail-true : (a b : Bool) → a && b ≡ true → b ≡ true
-tail-true true b h = h
-tail-true false b h = cc
 
 pub equal-lengths : (xs ys : List ℕ) → same xs ys ≡ true → length xs ≡ length ys
 unfolding same
 equal-lengths [] [] h = refl
 equal-lengths [] (y ∷ ys) h = cc
 equal-lengths (x ∷ xs) [] h = cc
-equal-lengths (x ∷ xs) (y ∷ ys) h = ap suc (equal-lengths xs ys (tail-true (eqb x y) (same xs ys) h))
-
-unequal : (xs ys : List ℕ) → (length xs ≡ length ys → ⊥) → (b : Bool) → same xs ys ≡ b → b ≡ false
-unequal xs ys h true e = absurd (h (equal-lengths xs ys e))
-unequal xs ys h false e = refl
+equal-lengths (x ∷ xs) (y ∷ ys) h = ap suc (equal-lengths xs ys (second (eqb x y) (same xs ys) h))
 
 pub unequal-lengths : (xs ys : List ℕ) → (length xs ≡ length ys → ⊥) → same xs ys ≡ false
-unequal-lengths xs ys h = unequal xs ys h (same xs ys) refl
+unequal-lengths xs ys h = is-false (same xs ys) (not-T (same xs ys) (λ t. h (equal-lengths xs ys (is-true (same xs ys) t))))
 
 module _ (xs ys : List ℕ) where
   from : (i : ℕ) → i < length xs → i < length ys → same (drop i xs) (drop i ys) ≡ eqb (getD xs i 0) (getD ys i 0) && same (drop (suc i) xs) (drop (suc i) ys)

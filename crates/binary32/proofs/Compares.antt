@@ -5,24 +5,18 @@ use Prim.Native.Nat.{ℕ, _≤_, _<_, compare, Ordering, Ordering·lt, Ordering�
 use native.Mathlib.Omega.{arith}
 use lib.Dec.{T, isLe, isEq, leb→le, eqb→eq, nleb→lt}
 
-clash : {a b : ℕ} → a < b → b ≤ a → ⊥
-clash h k = omega arith
-
-same : {a b : ℕ} → a < b → a ≡ b → ⊥
-same h k = omega arith
-
 pub compare-lt : (a b : ℕ) → a < b → compare a b ≡ Ordering·lt
 compare-lt a b h = go (compare a b) (nleb→lt a b) (eqb→eq a b)
   where
     go : (o : Ordering) → (T (not (isLe o)) → b < a) → (T (isEq o) → a ≡ b) → o ≡ Ordering·lt
     go Ordering·lt k e = refl
-    go Ordering·eq k e = absurd (same h (e tt))
-    go Ordering·gt k e = absurd (clash h (omega (arith, k tt)))
+    go Ordering·eq k e = absurd (omega (arith, e tt))
+    go Ordering·gt k e = absurd (omega (arith, k tt))
 
 pub compare-gt : (a b : ℕ) → b < a → compare a b ≡ Ordering·gt
 compare-gt a b h = go (compare a b) (leb→le a b)
   where
     go : (o : Ordering) → (T (isLe o) → a ≤ b) → o ≡ Ordering·gt
-    go Ordering·lt k = absurd (clash h (k tt))
-    go Ordering·eq k = absurd (clash h (k tt))
+    go Ordering·lt k = absurd (omega (arith, k tt))
+    go Ordering·eq k = absurd (omega (arith, k tt))
     go Ordering·gt k = refl

@@ -2,9 +2,9 @@
 -- product's of the signs, and x - y and y - x differ in sign alone. Assumes nothing.
 use mathlib.Core.Path.{_≡_, refl, sym, ap, _∙_, subst}
 use mathlib.Core.Logic.{_⊎_, inl, inr}
-use mathlib.Core.Bool.{Bool, true, false, not, _&&_, _||_, cond, true≢false}
+use mathlib.Core.Bool.{Bool, true, false, not, _&&_, _||_, cond, true≢false, Bool·not-not}
 use Prim.Native.Nat.{ℕ, zero, suc, _+_, _-_, _*_, _^_, _<_, _≤_}
-use native.Mathlib.Nat.{zero-mul, mul-one, mul-comm, mul-pos, eq-or-lt-of-le, le-refl}
+use native.Mathlib.Nat.{zero-mul, mul-comm, mul-pos, eq-or-lt-of-le, le-refl}
 use native.Mathlib.Omega.{arith}
 use borrow.Author.Tests.{lt-ltb, le-ltb, eq-eqb, ne-eqb}
 use lib.Dec.{T, ltb, eqb, ltb→lt, nltb→le}
@@ -83,6 +83,12 @@ module _ (f : Format) where
   sgn-mul (fin s m e) (inf t) h = scaled-sgn (unlike s t) m h
   sgn-mul (fin s m e) (fin t n d) h = round-told f (unlike s t) (m * up e * (n * up d)) (down e * down d) .1
 
+  pub mul-nan : (x : Float) → mul f x nan ≡ nan
+  unfolding mul
+  mul-nan nan = refl
+  mul-nan (inf s) = refl
+  mul-nan (fin s m e) = refl
+
   pub mul-comm-float : (x y : Float) → mul f x y ≡ mul f y x
   unfolding mul
   mul-comm-float nan nan = refl
@@ -95,9 +101,6 @@ module _ (f : Format) where
   mul-comm-float (fin s m e) (inf t) = ap (λ (u : Bool). cond (eqb m 0) nan (inf u)) (unlike-comm s t)
   mul-comm-float (fin s m e) (fin t n d) = λ i. round f (unlike-comm s t i) (mul-comm (m * up e) (n * up d) i) (mul-comm (down e) (down d) i)
 
-not-none : (n : ℕ) → 0 < n → 0 ≡ n * 1 → ⊥
-not-none n h e = omega arith
-
 some : (m : ℕ) (e : ℤ) → T (ltb 0 m) → 0 < m * up e
 some m e h = mul-pos (ltb→lt 0 m h) (up-pos e)
 
@@ -107,8 +110,8 @@ unfolding le
 sign-test nan h = absurd h
 sign-test (inf true) h = refl
 sign-test (inf false) h = refl
-sign-test (fin true m e) h = rw (zero-mul, ne-eqb 0 (m * up e * 1) (not-none (m * up e) (some m e h)))
-sign-test (fin false m e) h = rw (zero-mul, lt-ltb 0 (m * up e * 1) (subst (λ (n : ℕ). 0 < n) (sym (mul-one (m * up e))) (some m e h)))
+sign-test (fin true m e) h = rw (zero-mul (down e), ne-eqb 0 (m * up e * 1) (λ z. omega (arith, z, some m e h)))
+sign-test (fin false m e) h = rw (zero-mul (down e), lt-ltb 0 (m * up e * 1) (omega (arith, some m e h)))
 
 -- ---- a product grows with its factors, infinities included
 at-inf : (l : Float) → T (positive l) → (n : ℕ) → T (ltb 0 n) → T (le l (cond (eqb n 0) nan (inf false)))
@@ -178,26 +181,16 @@ opposite : (s : Bool) (n c : ℕ) → Swapped (round binary32 s n c) (round bina
 opposite s n c =
     let here = round-told binary32 s n c in
     let there = round-told binary32 (not s) n c in
-    record { alike = here .0 ∙ sym (there .0); against = inl (here .1 ∙ not-not s ∙ ap not (sym (there .1))); real = here .2 }
-  where
-    not-not : (s : Bool) → s ≡ not (not s)
-    not-not true = refl
-    not-not false = refl
+    record { alike = here .0 ∙ sym (there .0); against = inl (here .1 ∙ sym (Bool·not-not s) ∙ ap not (sym (there .1))); real = here .2 }
 
 module _ (a b c : ℕ) (C : 0 < c) where
-  none-between : b ≤ a → a ≤ b → (a - b ≡ 0) × (b - a ≡ 0)
-  none-between h g = omega arith
-
-  not-both : a < b → b < a → ⊥
-  not-both x y = omega arith
-
   differ : (p q : Bool) → (T p → a < b) → (T (not p) → b ≤ a) → (T q → b < a) → (T (not q) → a ≤ b)
       → Swapped (cond p (round binary32 true (b - a) c) (round binary32 false (a - b) c)) (cond q (round binary32 true (a - b) c) (round binary32 false (b - a) c))
-  differ true true h h' g g' = absurd (not-both (h tt) (g tt))
+  differ true true h h' g g' = absurd (omega (arith, h tt, g tt))
   differ true false h h' g g' = opposite true (b - a) c
   differ false true h h' g g' = opposite false (a - b) c
   differ false false h h' g g' =
-      let z = none-between (h' tt) (g' tt) in
+      let z : (a - b ≡ 0) × (b - a ≡ 0) = omega (arith, h' tt, g' tt) in
       let v : round binary32 false (a - b) c ≡ fin false 0 (pos 0) = ap (λ (n : ℕ). round binary32 false n c) (z .0) ∙ round-nought false c C in
       let w : round binary32 false (b - a) c ≡ fin false 0 (pos 0) = ap (λ (n : ℕ). round binary32 false n c) (z .1) ∙ round-nought false c C in
       record { alike = ap magnitude (v ∙ sym w); against = inr (ap magnitude v); real = round-told binary32 false (a - b) c .2 }

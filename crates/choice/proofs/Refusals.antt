@@ -1,17 +1,16 @@
 -- An interior test of faces 1 to 6 is not refused. Assumes nothing.
-use mathlib.Core.Bool.{Bool, true, false, cond, _&&_}
+use mathlib.Core.Bool.{Bool, true, false, _&&_}
 use mathlib.Core.List.{List, [], _∷_}
 use Prim.Native.Nat.{ℕ}
 use lib.Dec.{T, leb}
-use lib.IntN.{ℤ, pos}
-use lib.ListN.{getD}
+use lib.IntN.{ℤ}
+use lib.Ieee.Bits.{is-true}
 use lib.Ieee.Fits.{and-l, and-r}
 use Rattle.binary32.specs.Numbers.{Numbers, f32}
 use Rattle.cube.specs.declared.Cube.{Cube}
 use Rattle.cube.specs.Corners.{cornerOf}
 use Rattle.edge.specs.Edge.{Quotients, quotients}
-use Rattle.interior.specs.Pick as Pick
-use Rattle.interior.specs.Pick.{edge, diagonals, lastMatch, pickWith, pickBy, matchesBy}
+use Rattle.interior.specs.Pick.{pickWith, pickBy}
 use Rattle.interior.specs.Interior.{Look, seen, refused, joined, seenAs, lookAt, insideBy, insideOf}
 
 abbrev isFace : ℕ → Bool
@@ -34,11 +33,7 @@ joined-seen (seen a m) (seen b n) h l = tt
 module _ (K : Numbers) (D : Quotients K) (corner : ℕ → K .N) (s : ℤ) where
   one-seen : (n : ℕ) → T (isFace n) → T (isSeen (lookAt K D corner (pickBy K corner s n)))
   unfolding pickBy pickWith lookAt seenAs
-  one-seen n h = go (isFace n) h
-    where
-      go : (b : Bool) → T b → T (isSeen (lookAt K D corner (cond b (edge (pos (lastMatch (matchesBy K corner s) 0 (getD diagonals n [])))) (Pick.refused 9))))
-      go true h = tt
-      go false h = h
+  one-seen n h = rw (is-true (isFace n) h) tt
 
   all-seen : (faces : List ℕ) → T (allFaces faces) → T (isSeen (insideBy K D corner faces s))
   unfolding insideBy

@@ -2,7 +2,7 @@
 -- the values, and the values read from the other side, d, c, b, a, have the same Bool. Assumes nothing.
 use mathlib.Core.Path.{_≡_, refl, sym, ap, _∙_, subst}
 use mathlib.Core.Logic.{inl, inr}
-use mathlib.Core.Bool.{Bool, true, false, not, _&&_, cond, Bool·beq, true≢false}
+use mathlib.Core.Bool.{Bool, true, false, not, _&&_, cond, Bool·beq, Bool·not-not, true≢false}
 use Prim.Native.Nat.{ℕ, suc, _≤_}
 use native.Mathlib.Nat.{mul-one, le-trans}
 use borrow.Author.Tests.{lt-ltb}
@@ -107,16 +107,12 @@ pub has-size : {s : Bool} {x : Float} → Ranged s x → T (positive (magnitude 
 has-size {s} {x} r = in-range-positive (magnitude x) (r .size)
 
 -- the same four values from the other side
-not-not : (s : Bool) → s ≡ not (not s)
-not-not true = refl
-not-not false = refl
-
 pub turned : {s : Bool} {a b c d : Float} → Square s a b c d → Square (not s) d c b a
 turned {s} {a} {b} {c} {d} q = record {
   at-a = q .at-d;
-  at-b = subst (λ (z : Bool). Ranged z c) (not-not s) (q .at-c);
+  at-b = subst (λ (z : Bool). Ranged z c) (sym (Bool·not-not s)) (q .at-c);
   at-c = q .at-b;
-  at-d = subst (λ (z : Bool). Ranged z a) (not-not s) (q .at-a);
+  at-d = subst (λ (z : Bool). Ranged z a) (sym (Bool·not-not s)) (q .at-a);
 }
 
 -- ---- the Bool of the values

@@ -1,13 +1,15 @@
 -- `FaceLaws` of the rule: exact tie, NaN, and the symmetry of the signs. Assumes nothing.
 use mathlib.Core.Path.{_≡_, refl, sym, ap, _∙_}
-use mathlib.Core.Bool.{Bool, true, false, not, cond, Bool·beq}
+use mathlib.Core.Bool.{Bool, true, false, not, Bool·beq}
 use Prim.Native.Nat.{zero, suc}
 use native.Mathlib.Nat.{zero-lt-suc}
 use borrow.Author.Tests.{lt-ltb}
 use lib.Dec.{T}
 use lib.IntN.{ℤ, pos, negsuc, negℤ}
-use lib.Ieee.{Float, nan, inf, fin, binary32, mul, lt, le, ofInt}
+use lib.Ieee.{Float, nan, binary32, mul, lt, le, ofInt}
+use lib.Ieee.Bits.{is-true}
 use Rattle.binary32.specs.Numbers.{f32, magnitude, epsilon}
+use Rattle.binary32.proofs.Magnitudes.{mul-nan}
 use Rattle.cube.specs.declared.Cube.{Cube}
 use Rattle.face.specs.declared.Square.{Square}
 use Rattle.face.specs.Columns.{squareOf}
@@ -17,21 +19,11 @@ use Rattle.face.proofs.Decision.{val, kept, square, turned, decided, ke
 
 pub exact-tie : (n : ℤ) (a b c d : Float) → T (lt (magnitude (val a b c d)) epsilon) → rule f32 n a b c d ≡ isPositive n
 unfolding rule
-exact-tie n a b c d t = go (lt (magnitude (val a b c d)) epsilon) t
-  where
-    go : (x : Bool) → T x → cond x (isPositive n) (le (fin false 0 (pos 0)) (mul binary32 (mul binary32 (ofInt binary32 n) a) (val a b c d))) ≡ isPositive n
-    go true t = refl
-    go false t = absurd t
-
-times-nan : (x : Float) → mul binary32 x nan ≡ nan
-unfolding mul
-times-nan nan = refl
-times-nan (inf s) = refl
-times-nan (fin s m e) = refl
+exact-tie n a b c d t = rw (is-true (lt (magnitude (val a b c d)) epsilon) t)
 
 pub at-nan : (n : ℤ) (a b c d : Float) → val a b c d ≡ nan → rule f32 n a b c d ≡ false
 unfolding rule lt le
-at-nan n a b c d e = rw (e, times-nan (mul binary32 (ofInt binary32 n) a))
+at-nan n a b c d e = rw (e, mul-nan binary32 (mul binary32 (ofInt binary32 n) a))
 
 pub symmetric : (n : ℤ) (a b c d : Float) → T (isFace n) → T (alternate a b c d) → rule f32 n a b c d ≡ rule f32 n d c b a
 symmetric n a b c d f t =

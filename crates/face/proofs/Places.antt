@@ -1,10 +1,11 @@
 -- A face's size by the number taken apart, `placeOf` by the size; and by that, what the public routine says. Assumes nothing.
-use mathlib.Core.Path.{_≡_, refl, sym, ap, _∙_, subst}
+use mathlib.Core.Path.{_≡_, refl, sym, ap, _∙_}
 use mathlib.Core.Bool.{Bool, true, false, cond, not, _&&_}
 use Prim.Native.Nat.{ℕ, zero, suc, _+_, _≤_, _<_}
 use native.Mathlib.Numerals.{add-one}
 use borrow.Author.Tests.{le-leb, lt-leb, ne-eqb}
 use lib.IntN.{ℤ, natAbs}
+use lib.Ieee.Bits.{is-true}
 use lib.Ieee.Fits.{and-r}
 use lib.Dec.{T, leb, eqb, leb·suc-suc, leb·zero, eqb·suc-zero}
 use mir.Syntax.{w8}
@@ -45,13 +46,9 @@ pub face-place : (z : ℤ) → isFace z ≡ not (eqb (placeOf z) 0)
 unfolding placeOf
 face-place z = face-by (natAbs z) (leb (natAbs z) 6)
 
-pub face-size : (z : ℤ) → isFace z ≡ true → placeOf z ≡ natAbs z
+pub face-size : (z : ℤ) → T (isFace z) → placeOf z ≡ natAbs z
 unfolding placeOf
-face-size z h = go (leb (natAbs z) 6) (and-r (leb 1 (natAbs z)) (leb (natAbs z) 6) (subst T (sym h) tt))
-  where
-    go : (b : Bool) → T b → cond b (natAbs z) 0 ≡ natAbs z
-    go true t = refl
-    go false t = absurd t
+face-size z t = rw (is-true (leb (natAbs z) 6) (and-r (leb 1 (natAbs z)) (leb (natAbs z) 6) t))
 
 module _ (q : Cube) (z : ℤ) (k : ℕ) (e : k ≡ placeOf z) where
   pub by-no-face : k ≡ 0 → refused 4 ≡ testFaceOf q z

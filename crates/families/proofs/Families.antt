@@ -1,11 +1,11 @@
 -- The case that a match has found: its configurations and its plan. Assumes nothing.
 use mathlib.Core.Path.{_≡_, refl, sym, ap, subst, _∙_}
-use mathlib.Core.Bool.{Bool, true, false, not, cond}
+use mathlib.Core.Bool.{Bool, false, cond}
 use mathlib.Core.List.{List, [], _∷_}
 use Prim.Native.Nat.{ℕ, zero, suc, _<_, _≤_}
+use native.Mathlib.Nat.{lt-of-not-le, not-suc-le-zero}
 use native.Mathlib.Omega.{arith}
 use borrow.Author.Tests.{ne-eqb}
-use lib.Dec.{T, leb, leb→le, nleb→lt}
 use lib.ListN.{getD, List·getD-eq-default}
 use Rattle.cube.specs.declared.Cube.{Cube}
 use Rattle.cube.proofs.Table.{agree}
@@ -21,24 +21,14 @@ module _ {case c : ℕ} where
 
   pub of-a-case : c < getD configurations case 0 → case < 15
   unfolding configurations
-  of-a-case h = go (leb 15 case) (leb→le 15 case) (nleb→lt 15 case)
-    where
-      go : (b : Bool) → (T b → 15 ≤ case) → (T (not b) → case < 15) → case < 15
-      go true l g = absurd (none (subst (λ (n : ℕ). c < n) (List·getD-eq-default configurations 0 (l tt)) h))
-        where
-          none : c < 0 → ⊥
-          none k = omega arith
-      go false l g = g tt
+  of-a-case h = lt-of-not-le (λ (l : 15 ≤ case). not-suc-le-zero (subst (λ (n : ℕ). c < n) (List·getD-eq-default configurations 0 l) h))
 
   positive : c < getD configurations case 0 → 0 < case
   unfolding configurations
   positive h = go case h
     where
       go : (k : ℕ) → c < getD configurations k 0 → 0 < k
-      go zero h = absurd (none h)
-        where
-          none : c < 0 → ⊥
-          none k = omega arith
+      go zero h = absurd (not-suc-le-zero h)
       go (suc k) h = omega arith
 
 pub reached : {case : ℕ} (q : Cube) (c : ℕ) {k : ℕ} → case ≡ k → {x : Chosen} → x ≡ run (answersOf q) (planOf k c) noNotes → x ≡ run (answersOf q) (planOf case c) noNotes

@@ -75,10 +75,6 @@ refused : (x y : ℤ) (tail bits : List ℕ) → bits ≡ bits-in tail → all-l
 unfolding lineFrom haveCorners
 refused x y tail bits e h = let g : all-low (bits-in tail) ≡ false = ap all-low (sym e) ∙ h in rw g
 
-in-a-list : (p0 p1 p2 p3 p4 p5 p6 p7 : Bool)
-    → p0 && (p1 && (p2 && (p3 && (p4 && (p5 && (p6 && (p7 && true))))))) ≡ p0 && p1 && p2 && p3 && p4 && p5 && p6 && p7
-in-a-list p0 p1 p2 p3 p4 p5 p6 p7 = simp (and-true, and-assoc)
-
 module _ (x y : ℤ) (tail : List ℕ) (case configuration : Number) (b0 b1 b2 b3 b4 b5 b6 b7 : ℕ) where
   abbrev pub tested : Bool
   tested =
@@ -97,9 +93,7 @@ module _ (x y : ℤ) (tail : List ℕ) (case configuration : Number) (b0 b1 b2 b
   listed (e0, (e1, (e2, (e3, (e4, (e5, (e6, e7))))))) = rw (← e0, ← e1, ← e2, ← e3, ← e4, ← e5, ← e6, ← e7)
 
   tests : all-low bits ≡ tested
-  tests = in-a-list
-      (ltb b0 0x100000000) (ltb b1 0x100000000) (ltb b2 0x100000000) (ltb b3 0x100000000)
-      (ltb b4 0x100000000) (ltb b5 0x100000000) (ltb b6 0x100000000) (ltb b7 0x100000000)
+  tests = simp (and-true, and-assoc)
 
   pub by-corners : {q : Cube} → SFits w8 x → SFits w8 y → case ≡ Is x → configuration ≡ Is y → Bits → tested ≡ true → q ≡ in-turn (low bits)
       → Given (toZ w8 (ofZ w8 x)) (toZ w8 (ofZ w8 y)) q ≡ lineFrom case configuration tail

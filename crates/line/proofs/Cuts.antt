@@ -1,13 +1,13 @@
--- A line cut at its first space and before its last 72 bytes, as the code cuts it. Assumes nothing.
+-- A list cut at its first b; a line cut at its first space and before its last 72 bytes, as the code cuts it. Assumes nothing.
 use mathlib.Core.Path.{_≡_, refl, sym, ap, _∙_}
 use mathlib.Core.Bool.{Bool, true, false}
-use mathlib.Core.List.{List, [], _∷_}
+use mathlib.Core.List.{List, [], _∷_, _++_}
 use Prim.Native.Nat.{ℕ, zero, suc, _+_, _-_, _≤_, _<_}
-use native.Mathlib.Nat.{zero-add}
+use native.Mathlib.Nat.{zero-add, le-of-suc-le-suc, not-suc-le-zero}
 use native.Mathlib.Omega.{arith}
 use native.Mathlib.Numerals.{add-one}
 use lib.Dec.{eqb}
-use lib.ListN.{length, getD, take, drop, length-take, length-drop, drop-of-length-le}
+use lib.ListN.{length, take, drop, length-take, length-drop, drop-of-length-le}
 use lib.Seq.{take-all, take-take, take-nil}
 use borrow.Author.Tests.{eqb-true}
 use Rattle.bytes.specs.Bytes.{indexOf, indexAfter, slice}
@@ -19,24 +19,26 @@ use Rattle.line.specs.Number.{signedOf}
 use Rattle.line.specs.Line.{lineFrom, parseLine}
 use Rattle.line.proofs.Decimals.{nothing}
 
-drop-take : (m n : ℕ) (l : List ℕ) → drop m (take n l) ≡ take (n - m) (drop m l)
+pub drop-take : (m n : ℕ) (l : List ℕ) → drop m (take n l) ≡ take (n - m) (drop m l)
 drop-take zero n l = let e : n - 0 ≡ n = omega arith in ap (λ k. take k l) (sym e)
 drop-take (suc m) n [] = rw (take-nil n) (sym (take-nil (n - suc m)))
 drop-take (suc m) zero (x ∷ l) = let e : 0 - suc m ≡ 0 = omega arith in ap (λ k. take k (drop m l)) (sym e)
 drop-take (suc m) (suc n) (x ∷ l) = let e : suc n - suc m ≡ n - m = omega arith in rw e (drop-take m n l)
 
--- what stands at the index of b is b
+-- the first b cuts a list
 module _ (b : ℕ) where
-  at-head : (x : ℕ) (rest : List ℕ) (t : Bool) → eqb x b ≡ t → (indexOf b rest < length rest → getD rest (indexOf b rest) 0 ≡ b)
-      → indexAfter t (indexOf b rest) < suc (length rest) → getD (x ∷ rest) (indexAfter t (indexOf b rest)) 0 ≡ b
-  unfolding indexAfter
-  at-head x rest true e f h = eqb-true x b e
-  at-head x rest false e f h = f (omega arith)
+  abbrev Cut : ℕ → List ℕ → Type 0
+  Cut k xs = xs ≡ take k xs ++ b ∷ drop (suc k) xs
 
-  pub at-index : (xs : List ℕ) → indexOf b xs < length xs → getD xs (indexOf b xs) 0 ≡ b
+  cut-after : (t : Bool) (x k : ℕ) (xs : List ℕ) → eqb x b ≡ t → indexAfter t k < suc (length xs) → (k < length xs → Cut k xs) → Cut (indexAfter t k) (x ∷ xs)
+  unfolding indexAfter
+  cut-after true x k xs e h ih = ap (λ (y : ℕ). y ∷ xs) (eqb-true x b e)
+  cut-after false x k xs e h ih = ap (λ (ys : List ℕ). x ∷ ys) (ih (le-of-suc-le-suc h))
+
+  pub cut-at : (xs : List ℕ) → indexOf b xs < length xs → Cut (indexOf b xs) xs
   unfolding indexOf
-  at-index [] h = absurd (omega arith)
-  at-index (x ∷ rest) h = at-head x rest (eqb x b) refl (at-index rest) h
+  cut-at [] h = absurd (not-suc-le-zero h)
+  cut-at (x ∷ xs) h = cut-after (eqb x b) x (indexOf b xs) xs refl h (cut-at xs)
 
 no-second : (case : Number) (tail : List ℕ) → lineFrom case Broken tail ≡ Malformed
 unfolding lineFrom

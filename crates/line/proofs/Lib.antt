@@ -1,7 +1,7 @@
 mod Digits
 mod Decimals
 mod Corners
-mod Cuts
+pub mod Cuts
 mod WrittenDecimals
 mod WrittenWords
 pub mod RoundTrip
@@ -9,4 +9,3 @@ mod ReadDecimals
 mod ReadWords
 pub mod OnlyWritten
 pub mod Lengths
-pub mod Newlines

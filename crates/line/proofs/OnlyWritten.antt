@@ -8,7 +8,7 @@ use native.Mathlib.Nat.{eq-zero-or-pos}
 use native.Mathlib.Omega.{arith}
 use lib.IntN.{ℤ}
 use lib.ListN.{length, take, drop, length-drop, take-append-drop, drop-of-length-le}
-use lib.Seq.{take-all, drop-drop, split-at}
+use lib.Seq.{take-all, drop-drop}
 use Rattle.bytes.specs.Bytes.{indexOf}
 use Rattle.cube.specs.declared.Cube.{Cube}
 use Rattle.line.specs.declared.Number.{Number}
@@ -20,7 +20,7 @@ use Rattle.line.specs.Line.{cornerBits, haveCorners, cubeIn, lineFrom, p
 use Rattle.line.specs.Written.{corner, lineOf, IsWritten, OnlyWritten}
 use Rattle.line.proofs.Decimals.{nothing}
 use Rattle.line.proofs.Corners.{each-corner}
-use Rattle.line.proofs.Cuts.{at-index, is-cut, second-broken, without-head}
+use Rattle.line.proofs.Cuts.{cut-at, is-cut, second-broken, without-head}
 use Rattle.line.proofs.ReadDecimals.{IsText, read-text}
 use Rattle.line.proofs.ReadWords.{read-corner}
 
@@ -70,8 +70,7 @@ module _ (line : List ℕ) (long : 72 ≤ length line) where
   module _ (space : k < length head) where
     at-the-space : line ≡ take k head ++ (32 ∷ drop (suc k) head) ++ drop n line
     at-the-space =
-        let split = split-at head k 0 space ∙ ap (λ b. take k head ++ b ∷ drop (suc k) head) (at-index 32 head space) in
-        sym (take-append-drop n line) ∙ ap (λ (l : List ℕ). l ++ drop n line) split
+        sym (take-append-drop n line) ∙ ap (λ (l : List ℕ). l ++ drop n line) (cut-at 32 head space)
 
     of-parts : (x y : Number) → IsText (take k head) x → IsText (drop (suc k) head) y → (t : Bool) → haveCorners (drop n line) ≡ t
         → IsLine line (lineFrom x y (drop n line))

@@ -1,12 +1,13 @@
 -- A line as it is written is read back whole: `parse-written`. Assumes nothing.
 use mathlib.Core.Path.{_≡_, refl, _∙_}
-use mathlib.Core.List.{List, [], _∷_, _++_}
+use mathlib.Core.List.{List, _∷_, _++_}
 use Prim.Native.Nat.{ℕ, suc, _-_, _<_}
+use native.Mathlib.Numerals.{add-one}
 use native.Mathlib.Omega.{arith}
 use lib.Dec.{T}
 use lib.IntN.{ℤ}
 use lib.ListN.{length, take, drop, length-append}
-use lib.Seq.{take-append-seam, drop-append-seam}
+use lib.Seq.{take-append-seam, drop-append-seam, drop-append-add}
 use borrow.Author.Tests.{lt-ltb}
 use Rattle.bytes.specs.Bytes.{indexOf}
 use Rattle.cube.specs.Corners.{cube}
@@ -37,17 +38,13 @@ parse-seam head tail h =
     let n : length (head ++ tail) - 72 ≡ length head = rw (length-append head tail, h) (omega arith) in
     rw (n, take-append-seam head tail, drop-append-seam head tail)
 
-drop-past : (xs : List ℕ) (y : ℕ) (ys : List ℕ) → drop (suc (length xs)) (xs ++ y ∷ ys) ≡ ys
-drop-past [] y ys = refl
-drop-past (x ∷ xs) y ys = drop-past xs y ys
-
 parse-head : (case configuration : ℤ) (tail : List ℕ) → T (inByte case) → T (inByte configuration) → length tail ≡ 72
     → parseLine (signedText case ++ (32 ∷ signedText configuration) ++ tail) ≡ lineFrom (Is case) (Is configuration) tail
 parse-head case configuration tail h k l =
     let xs = signedText case in
     let ys = signedText configuration in
     parse-seam (xs ++ 32 ∷ ys) tail l
-    ∙ rw (first-space ys case h, take-append-seam xs (32 ∷ ys), drop-past xs 32 ys, signed-back case h, signed-back configuration k)
+    ∙ rw (first-space ys case h, take-append-seam xs (32 ∷ ys), ← add-one (length xs), drop-append-add xs (32 ∷ ys) 1, signed-back case h, signed-back configuration k)
 
 -- ---- the round trip
 pub parse-written : WrittenBack

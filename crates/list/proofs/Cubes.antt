@@ -1,5 +1,5 @@
 -- A list's cubes and their choices, as the code reads them. Assumes nothing.
-use mathlib.Core.Path.{_≡_, sym, ap, _∙_, subst}
+use mathlib.Core.Path.{_≡_, ap, _∙_}
 use mathlib.Core.Bool.{Bool, cond}
 use mathlib.Core.List.{List}
 use Prim.Native.Nat.{ℕ, _+_, _*_, _/_, _%_, _≤_, _<_}
@@ -42,5 +42,4 @@ unfolding choiceAt
 at-place xs ns i q f g e = rw (toZ-ofZ w8 (getD ns (2 * i) (pos 0)) f, toZ-ofZ w8 (getD ns (2 * i + 1) (pos 0)) g, e)
 
 pub few-unsettled : (case configuration : ℤ) (q : Cube) (s : Chosen) → s ≡ choiceOf case configuration q → unsettledIn s ≤ 3
-few-unsettled case configuration q s e =
-    subst (λ (s : Chosen). unsettledIn s ≤ 3) (sym e) (unsettled-bound case configuration q)
+few-unsettled case configuration q s e = rw e (unsettled-bound case configuration q)

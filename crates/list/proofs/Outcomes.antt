@@ -1,15 +1,16 @@
 -- What a list comes to, and its answer bytes, from the tests as the code makes them. Assumes nothing.
-use mathlib.Core.Path.{_≡_, refl, sym, ap, _∙_}
+use mathlib.Core.Path.{_≡_, refl, sym, ap, subst, _∙_}
 use mathlib.Core.Bool.{Bool, true, false, cond, not, _&&_}
 use mathlib.Core.List.{List, _++_}
 use Prim.Native.Nat.{ℕ, _*_, _/_, _%_, _≤_, _<_}
 use native.Mathlib.Nat.{zero-add}
 use native.Mathlib.Omega.{arith}
-use lib.Dec.{eqb, leb}
+use lib.Dec.{T, eqb, leb, eqb→eq}
 use lib.IntN.{ℤ}
 use lib.ListN.{length, drop}
 use lib.Ieee.{Float}
-use borrow.Author.Tests.{eqb-true, le-leb, lt-leb}
+use lib.Ieee.Fits.{and-r}
+use borrow.Author.Tests.{not-true, not-false, le-leb, lt-leb}
 use Rattle.put.specs.Placed.{placed}
 use Rattle.list.specs.Lists.{cubes, isEven, Result, done, refusedAt, firstFrom, resultOf, rowsOf, answersBy, answersOf}
 use Rattle.list.specs.declared.Outcome.{Outcome}
@@ -18,19 +19,6 @@ use Rattle.list.specs.Results.{result}
 use Rattle.list.specs.Tries.{ListTries}
 use Rattle.list.proofs.Controls.{tries-hold}
 
-is-true : (b : Bool) → not b ≡ false → b ≡ true
-is-true true e = refl
-is-true false e = cc
-
-is-false : (b : Bool) → not b ≡ true → b ≡ false
-is-false true e = cc
-is-false false e = refl
-
-last-holds : (a b c : Bool) → a && b && c ≡ true → c ≡ true
-last-holds true true c e = e
-last-holds true false c e = cc
-last-holds false b c e = cc
-
 module _ (xs : List Float) (ns : List ℤ) where
   -- the tests of refusal 6, as the code makes them
   abbrev even : Bool
@@ -38,8 +26,8 @@ module _ (xs : List Float) (ns : List ℤ) where
 
   pub enough : not even ≡ false → 2 * cubes xs ≤ length ns
   enough e =
-      let holds = last-holds (eqb (length xs % 8) 0) (eqb (length ns % 2) 0) (eqb (cubes xs) (length ns / 2)) (is-true even e) in
-      let same = eqb-true (cubes xs) (length ns / 2) holds in
+      let t = and-r (eqb (length xs % 8) 0 && eqb (length ns % 2) 0) (eqb (cubes xs) (length ns / 2)) (subst T (sym (not-false even e)) tt) in
+      let same = eqb→eq (cubes xs) (length ns / 2) t in
       omega arith
 
   module _ (ys : List ℕ) where
@@ -62,19 +50,19 @@ module _ (xs : List Float) (ns : List ℤ) where
     unfolding isEven
     not-even e =
         promised (refusedAt 6 0) ys
-        (tested false (leb (4 * cubes xs) (length ys)) (is-false (isEven xs ns) e) refl)
+        (tested false (leb (4 * cubes xs) (length ys)) (not-true (isEven xs ns) e) refl)
         refl
 
     module _ (passed : not even ≡ false) where
       pub no-room : length ys < 4 * cubes xs → Promised (refusedAt 7 0) ys
       unfolding isEven
       no-room h =
-          promised (refusedAt 7 0) ys (tested true false (is-true (isEven xs ns) passed) (lt-leb (4 * cubes xs) (length ys) h)) refl
+          promised (refusedAt 7 0) ys (tested true false (not-false (isEven xs ns) passed) (lt-leb (4 * cubes xs) (length ys) h)) refl
 
       module _ (room : 4 * cubes xs ≤ length ys) (o : Outcome) (e : result o ≡ firstFrom xs ns (cubes xs) 0) where
         first : firstFrom xs ns (cubes xs) 0 ≡ resultOf xs ns (length ys)
         unfolding isEven
-        first = tested true true (is-true (isEven xs ns) passed) (le-leb (4 * cubes xs) (length ys) room)
+        first = tested true true (not-false (isEven xs ns) passed) (le-leb (4 * cubes xs) (length ys) room)
 
         pub none-refused : o ≡ Done → firstFrom xs ns (cubes xs) 0 ≡ done
         none-refused f = sym e ∙ ap result f

@@ -1,7 +1,7 @@
 -- Rows of four bytes: a choice's row, a row put by four stores, and one row more. Assumes nothing.
 use mathlib.Core.Path.{_≡_, refl, sym, ap, _∙_, subst}
-use mathlib.Core.List.{List, [], _∷_, _++_}
-use Prim.Native.Nat.{ℕ, zero, suc, _+_, _*_, _≤_, _<_}
+use mathlib.Core.List.{List, [], _∷_}
+use Prim.Native.Nat.{ℕ, zero, suc, _+_, _*_, _≤_}
 use native.Mathlib.Numerals.{add-one}
 use native.Mathlib.Omega.{arith}
 use lib.IntN.{ℤ}
@@ -16,7 +16,7 @@ use Rattle.tilings.specs.Plan.{Chosen, empty, noTiling, tiling, refused}
 use Rattle.tilings.specs.Answers.{chosen}
 use Rattle.choice.specs.Choice.{unsettledIn}
 use Rattle.put.specs.Placed.{placed}
-use Rattle.put.proofs.Placed.{placed-length, placed-twice, set-placed}
+use Rattle.put.proofs.Placed.{placed-length, placed-after, set-placed, set-after}
 use Rattle.list.specs.Lists.{choiceAt, bytesOf, rowsOf}
 use Rattle.list.specs.declared.Row.{Row}
 use Rattle.list.specs.Results.{bytesIn}
@@ -38,20 +38,13 @@ unfolding unsettledIn
 unsettled-read x t e h = subst (λ (x : Choice). unsettledIn (chosen x) ≤ 3) e h
 
 -- ---- four stores
-one-more : (xs : List ℕ) (at : ℕ) (text : List ℕ) (k b : ℕ) → k ≡ at + length text → k < length xs → set (placed xs at text) k b ≡ placed xs at (text ++ (b ∷ []))
-one-more xs at text k b e h =
-    let l = placed-length xs at text (omega arith) in
-    set-placed (placed xs at text) k b (omega arith)
-    ∙ ap (λ (k : ℕ). placed (placed xs at text) k (b ∷ [])) e
-    ∙ placed-twice xs at text (b ∷ []) (omega arith)
-
 pub four-put : (xs : List ℕ) (at a b c d : ℕ) → at + 4 ≤ length xs
     → set (set (set (set xs at a) (at + 1) b) (at + 2) c) (at + 3) d ≡ placed xs at (a ∷ b ∷ c ∷ d ∷ [])
 four-put xs at a b c d h =
     ap (λ (ys : List ℕ). set (set (set ys (at + 1) b) (at + 2) c) (at + 3) d) (set-placed xs at a (omega arith))
-    ∙ ap (λ (ys : List ℕ). set (set ys (at + 2) c) (at + 3) d) (one-more xs at (a ∷ []) (at + 1) b refl (omega arith))
-    ∙ ap (λ (ys : List ℕ). set ys (at + 3) d) (one-more xs at (a ∷ b ∷ []) (at + 2) c refl (omega arith))
-    ∙ one-more xs at (a ∷ b ∷ c ∷ []) (at + 3) d refl (omega arith)
+    ∙ ap (λ (ys : List ℕ). set (set ys (at + 2) c) (at + 3) d) (set-after xs at (a ∷ []) (at + 1) b refl (omega arith))
+    ∙ ap (λ (ys : List ℕ). set ys (at + 3) d) (set-after xs at (a ∷ b ∷ []) (at + 2) c refl (omega arith))
+    ∙ set-after xs at (a ∷ b ∷ c ∷ []) (at + 3) d refl (omega arith)
 
 -- ---- rows one after another
 bytes-length : (s : Chosen) → length (bytesOf s) ≡ 4
@@ -71,28 +64,18 @@ module _ (xs : List Float) (ns : List ℤ) where
       let e = rows-length k in
       omega arith
 
-  row-more : (before ys : List ℕ) (i : ℕ) (bytes : List ℕ) → 4 * i + 4 ≤ length before → ys ≡ placed before 0 (rowsOf xs ns i) → bytes ≡ bytesOf (choiceAt xs ns i)
-      → placed ys (4 * i) bytes ≡ placed before 0 (rowsOf xs ns (i + 1))
-  unfolding rowsOf
-  row-more before ys i bytes h e f =
-      let rows = rowsOf xs ns i in
-      let row = bytesOf (choiceAt xs ns i) in
-      let long = rows-length i in
-      let four = bytes-length (choiceAt xs ns i) in
-      let there : 4 * i ≡ 0 + length rows = omega arith in
-      ap (λ (ys : List ℕ). placed ys (4 * i) bytes) e
-      ∙ ap (placed (placed before 0 rows) (4 * i)) f
-      ∙ ap (λ (k : ℕ). placed (placed before 0 rows) k row) there
-      ∙ placed-twice before 0 rows row (omega arith)
-      ∙ ap (λ (k : ℕ). placed before 0 (rowsOf xs ns k)) (sym (add-one i))
-
   -- a turn of the loop that puts the rows
   pub rows-again : (before ys zs : List ℕ) (i : ℕ) (r : Row) → 4 * i + 4 ≤ length before → length ys ≡ length before → ys ≡ placed before 0 (rowsOf xs ns i)
       → bytesIn r ≡ bytesOf (choiceAt xs ns i) → zs ≡ placed ys (4 * i) (bytesIn r)
       → (length zs ≡ length before) × (zs ≡ placed before 0 (rowsOf xs ns (i + 1)))
+  unfolding rowsOf
   rows-again before ys zs i r h long e f g =
-      let kept = placed-length ys (4 * i) (bytesIn r) (omega arith) in
-      (ap length g ∙ kept ∙ long, g ∙ row-more before ys i (bytesIn r) h e f)
+      let rows = rows-length i in
+      let four = bytes-length (choiceAt xs ns i) in (
+        ap length g ∙ placed-length ys (4 * i) (bytesIn r) (omega arith) ∙ long,
+        placed-after before 0 (rowsOf xs ns i) ys (4 * i) (bytesOf (choiceAt xs ns i)) zs (omega arith) (omega arith) e (g ∙ ap (placed ys (4 * i)) f)
+            ∙ ap (λ (k : ℕ). placed before 0 (rowsOf xs ns k)) (sym (add-one i)),
+      )
 
   pub rows-all : (before ys : List ℕ) (i n : ℕ) → i ≤ n → n ≤ i → ys ≡ placed before 0 (rowsOf xs ns i) → ys ≡ placed before 0 (rowsOf xs ns n)
   rows-all before ys i n h l e =

@@ -6,7 +6,6 @@ use Prim.Native.Nat.{ℕ}
 use borrow.Author.Tests.{ne-eqb, not-true, not-false}
 use lib.Dec.{T, eqb}
 use lib.IntN.{ℤ}
-use lib.Ieee.Bits.{is-true}
 use lib.Ieee.Fits.{and-l, and-r}
 use lib.Ieee.{eq}
 use Rattle.binary32.proofs.Bools.{either, beq-true}
@@ -91,9 +90,8 @@ module _ (k : Cube) (n : ℤ) (l : Cube) (p : ℤ) (i j : ℕ) (ei : i ≡ place
       as-joined : u || v ≡ joined k n l p || joined l p k n
       unfolding joined
       as-joined =
-          let an = face-size n (is-true (isFace n) (and-l (isFace n) (isFace p) (subst T (sym both) tt))) in
-          let ap' = face-size p (is-true (isFace p) (and-r (isFace n) (isFace p) (subst T (sym both) tt))) in
-          rw (eu, ev, an, ap')
+          let t : T (isFace n && isFace p) = subst T (sym both) tt in
+          rw (eu, ev, face-size n (and-l (isFace n) (isFace p) t), face-size p (and-r (isFace n) (isFace p) t))
 
       pub apart-told : u || v ≡ false → (apart ≡ comparedOf k n l p) × AgreeBySign n p Apart
       unfolding comparedOf

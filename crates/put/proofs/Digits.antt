@@ -4,10 +4,11 @@ use mathlib.Core.Bool.{Bool, true, false, cond}
 use mathlib.Core.List.{List, [], _∷_, _++_}
 use Prim.Native.Nat.{ℕ, zero, suc, _+_, _/_, _%_, _^_, _≤_, _<_}
 use native.Mathlib.Nat.{not-suc-le-zero, lt-suc-self, lt-of-lt-of-le, le-of-suc-le-suc, div-lt-self, div-lt-iff-lt-mul, pow-suc}
+use native.Mathlib.Decide.{decLt}
 use native.Mathlib.Omega.{arith}
 use lib.Dec.{ltb, lit≤, lit<}
 use lib.ListN.{length, length-append}
-use borrow.Author.Tests.{ltb-true, ltb-false, lt-ltb, le-ltb}
+use borrow.Author.Tests.{ltb-false, lt-ltb, le-ltb}
 use Rattle.put.specs.Decimal.{decimal, decimalIn}
 
 -- the higher digits matter only where there are any
@@ -49,23 +50,17 @@ length-one n h = ap length (decimal-one n h)
 pub length-more : (n : ℕ) → 10 ≤ n → length (decimal n) ≡ length (decimal (n / 10)) + 1
 length-more n h = ap length (decimal-more n h) ∙ length-append (decimal (n / 10)) ((48 + n % 10) ∷ [])
 
--- one more digit, where those before it number at most k
-one-longer : (k n : ℕ) → (10 ≤ n → length (decimal (n / 10)) ≤ k) → (b : Bool) → ltb n 10 ≡ b → length (decimal n) ≤ suc k
-one-longer k n f true e = let l = length-one n (ltb-true n 10 e) in omega arith
-one-longer k n f false e =
-    let h = ltb-false n 10 e in
-    let l = length-more n h in
-    let t = f h in
-    omega arith
-
 pub decimal-length : (k n : ℕ) → 0 < k → n < 10 ^ k → length (decimal n) ≤ k
 decimal-length zero n p h = absurd (not-suc-le-zero p)
 decimal-length (suc zero) n p h = let l = length-one n h in omega arith
 decimal-length (suc (suc k)) n p h =
-    one-longer (suc k) n
-    (λ t. decimal-length (suc k) (n / 10) (omega arith) (div-lt-iff-lt-mul (lit< tt) .1 (subst (λ (m : ℕ). n < m) (pow-suc 10 (suc k)) h)))
-    (ltb n 10)
-    refl
+    elim (decLt n 10) [
+      | yes l ↦ let one = length-one n l in omega arith
+      | no l ↦
+          let more = length-more n (omega arith) in
+          let high = decimal-length (suc k) (n / 10) (omega arith) (div-lt-iff-lt-mul (lit< tt) .1 (subst (λ (m : ℕ). n < m) (pow-suc 10 (suc k)) h)) in
+          omega arith
+    ]
 
 -- a byte's digits
 pub decimal-small : (n : ℕ) → n < 256 → length (decimal n) ≤ 3

@@ -6,7 +6,7 @@ use native.Mathlib.Omega.{arith}
 use lib.ListN.{length}
 use Rattle.put.specs.Placed.{placed}
 use Rattle.put.specs.Decimal.{decimal}
-use Rattle.put.proofs.Placed.{placed-twice}
+use Rattle.put.proofs.Placed.{placed-after}
 use Rattle.put.proofs.Digits.{decimal-one, decimal-more, length-one, length-more}
 
 pub one-put : (n at r : ℕ) (xs ys : List ℕ) → n < 10 → r ≡ at + 1 → ys ≡ placed xs at ((48 + n) ∷ [])
@@ -18,13 +18,7 @@ pub more-put : (n at last r : ℕ) (xs ys zs : List ℕ) → 10 ≤ n → at + l
     → r ≡ last + 1 → zs ≡ placed ys last ((48 + n % 10) ∷ [])
     → (r ≡ at + length (decimal n)) × (zs ≡ placed xs at (decimal n))
 more-put n at last r xs ys zs h room e p f q =
-    let l = length-more n h in
-    let digit = (48 + n % 10) ∷ [] in
-    let high = decimal (n / 10) in (
+    let l = length-more n h in (
       omega arith,
-      q
-          ∙ ap (λ (k : ℕ). placed ys k digit) e
-          ∙ ap (λ (k : List ℕ). placed k (at + length high) digit) p
-          ∙ placed-twice xs at high digit (omega arith)
-          ∙ ap (placed xs at) (sym (decimal-more n h)),
+      placed-after xs at (decimal (n / 10)) ys last ((48 + n % 10) ∷ []) zs (omega arith) e p q ∙ ap (placed xs at) (sym (decimal-more n h)),
     )

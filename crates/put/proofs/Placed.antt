@@ -1,12 +1,12 @@
 -- Text put at a place: its length, one text after another, one store, one more byte of a copy and of a move. Assumes nothing.
-use mathlib.Core.Path.{_≡_, sym, ap, _∙_, subst}
+use mathlib.Core.Path.{_≡_, refl, sym, ap, _∙_, subst}
 use mathlib.Core.List.{List, [], _∷_, _++_, append-assoc}
 use Prim.Native.Nat.{ℕ, _+_, _≤_, _<_}
 use native.Mathlib.Nat.{add-zero, zero-add, add-assoc, add-comm}
 use native.Mathlib.Numerals.{add-one}
 use native.Mathlib.Omega.{arith}
 use lib.ListN.{length, take, drop, set, getD, length-append, length-drop, take-append-drop}
-use lib.Seq.{length-take-le, take-append-seam, take-at, drop-append-add, drop-drop, set-split, take-suc, getD-append-add, getD-take, getD-drop}
+use lib.Seq.{length-take-le, take-at, drop-append-add, drop-drop, set-split, take-suc, getD-append-add, getD-take, getD-drop}
 use Rattle.put.specs.Placed.{placed}
 
 pub placed-length : (xs : List ℕ) (at : ℕ) (text : List ℕ) → at + length text ≤ length xs → length (placed xs at text) ≡ length xs
@@ -22,9 +22,9 @@ pub placed-nothing : (xs : List ℕ) (at : ℕ) → placed xs at [] ≡ xs
 unfolding placed
 placed-nothing xs at = ap (λ (k : ℕ). take at xs ++ drop k xs) (add-zero at) ∙ take-append-drop at xs
 
-pub placed-front : (xs text : List ℕ) → take (length text) (placed xs 0 text) ≡ text
+pub placed-front : (xs text : List ℕ) (n : ℕ) → length text ≡ n → take n (placed xs 0 text) ≡ text
 unfolding placed
-placed-front xs text = take-append-seam text (drop (0 + length text) xs)
+placed-front xs text n e = take-at text (drop (0 + length text) xs) n e
 
 -- m elements past a first part, which has n
 drop-past : (p q : List ℕ) (n m : ℕ) → length p ≡ n → drop (n + m) (p ++ q) ≡ drop m q
@@ -45,20 +45,27 @@ placed-twice xs at text more h =
     ∙ ap (λ (l : List ℕ). take at xs ++ l) (sym (append-assoc text more (drop (k + length more) xs)))
     ∙ ap (λ (m : ℕ). take at xs ++ (text ++ more ++ drop m xs)) (add-assoc at (length text) (length more) ∙ ap (λ (m : ℕ). at + m) (sym (length-append text more)))
 
+-- the same of what was put, and what was put after it
+pub placed-after : (xs : List ℕ) (at : ℕ) (text ys : List ℕ) (i : ℕ) (more zs : List ℕ) → at + length text + length more ≤ length xs
+    → i ≡ at + length text → ys ≡ placed xs at text → zs ≡ placed ys i more → zs ≡ placed xs at (text ++ more)
+placed-after xs at text ys i more zs h e p q = q ∙ (λ j. placed (p j) (e j) more) ∙ placed-twice xs at text more h
+
 pub set-placed : (xs : List ℕ) (at b : ℕ) → at < length xs → set xs at b ≡ placed xs at (b ∷ [])
 unfolding placed
 set-placed xs at b h = set-split xs at b h ∙ ap (λ (k : ℕ). take at xs ++ b ∷ drop k xs) (sym (add-one at))
+
+-- a byte stored right after a text
+pub set-after : (xs : List ℕ) (at : ℕ) (text : List ℕ) (i b : ℕ) → i ≡ at + length text → i < length xs → set (placed xs at text) i b ≡ placed xs at (text ++ (b ∷ []))
+set-after xs at text i b e h =
+    let long = placed-length xs at text (omega arith) in
+    placed-after xs at text _ i (b ∷ []) _ (omega arith) e refl (set-placed (placed xs at text) i b (omega arith))
 
 -- a turn of the loop that copies
 pub copied-one : (xs : List ℕ) (at : ℕ) (text : List ℕ) (i : ℕ) → at + length text ≤ length xs → i < length text
     → set (placed xs at (take i text)) (at + i) (getD text i 0) ≡ placed xs at (take (i + 1) text)
 copied-one xs at text i h l =
-    let b = getD text i 0 in
     let e : length (take i text) ≡ i = length-take-le i text (omega arith) in
-    let long = placed-length xs at (take i text) (omega arith) in
-    set-placed (placed xs at (take i text)) (at + i) b (omega arith)
-    ∙ ap (λ (k : ℕ). placed (placed xs at (take i text)) (at + k) (b ∷ [])) (sym e)
-    ∙ placed-twice xs at (take i text) (b ∷ []) (omega arith)
+    set-after xs at (take i text) (at + i) (getD text i 0) (omega arith) (omega arith)
     ∙ ap (placed xs at) (sym (take-suc text i 0 l))
     ∙ ap (λ (k : ℕ). placed xs at (take k text)) (sym (add-one i))
 

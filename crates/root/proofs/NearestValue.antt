@@ -1,13 +1,14 @@
 -- The rounded root is nearer to the root than any other value of binary32, by squares of whole numbers. Assumes nothing.
--- `no-tie`: the root of a value of 24 digits is never in the middle of two numbers of 24 digits. `near`: so it lies within half a unit of the rounded one,
+-- `no-tie`: the root of a value of 24 digits is never in the middle of two numbers of 24 digits. `Near`: so it lies within half a unit of the rounded one,
 -- strictly. `nearer`: and any other value is a unit away, or lies in the denser grid below 2 ^ 23 units, where the rounded root is the root cut off.
 use mathlib.Core.Path.{_≡_, sym, ap, _∙_, subst}
-use mathlib.Core.Bool.{Bool, true, false, not}
+use mathlib.Core.Bool.{false}
 use mathlib.Core.Logic.{⊎-elim}
 use Prim.Native.Nat.{ℕ, zero, suc, _+_, _-_, _*_, _/_, _%_, _^_, _≤_, _<_, Ordering}
-use native.Mathlib.Nat.{le-trans, le-of-eq, lt-of-lt-of-le, lt-of-le-of-lt, eq-or-lt-of-le, mul-assoc, mul-left-comm, mul-one, mul-le-mul-left, mul-le-mul-right, mul-lt-mul-of-pos-right, mul-lt-mul-of-pos-left, lt-of-mul-lt-mul-right, add-mul, suc-mul, pow-suc, pow-succ', eq-of-mul-eq-mul-right, div-mul-le-self, div-lt-iff-lt-mul, le-div-iff-mul-le}
+use native.Mathlib.Nat.{le-trans, le-of-eq, lt-of-lt-of-le, lt-of-le-of-lt, lt-of-not-le, eq-or-lt-of-le, mul-assoc, mul-left-comm, mul-one, mul-le-mul-left, mul-le-mul-right, mul-lt-mul-of-pos-right, mul-lt-mul-of-pos-left, lt-of-mul-lt-mul-right, add-mul, suc-mul, pow-suc, pow-succ', eq-of-mul-eq-mul-right, div-mul-le-self, div-lt-iff-lt-mul, le-div-iff-mul-le}
+use native.Mathlib.Decide.{decLe}
 use native.Mathlib.Omega.{arith}
-use lib.Dec.{T, leb, leb→le, nleb→lt, lit≤, lit<}
+use lib.Dec.{T, lit≤, lit<}
 use lib.Pow.{pow-add, pow-pos, pow-mono}
 use lib.Ieee.{Float, binary32, size, nearest, fits}
 use lib.Ieee.Digits.{size-reaches, size-le, back}
@@ -107,16 +108,15 @@ module _ (n q' k : ℕ) (ge : 2 ^ 23 ≤ q') (near : Near n (q' * 2 ^ k) (2 ^ k)
 
   -- a value p * 2 ^ j is a number of whole steps, or lies below 2 ^ 23 of them
   pub nearer : (b : ℕ) → Short b → Nearer n (q' * 2 ^ k) b
-  nearer b s = go (leb k (s .1)) (leb→le k (s .1)) (nleb→lt k (s .1))
-    where
-      go : (t : Bool) → (T t → k ≤ s .1) → (T (not t) → s .1 < k) → Nearer n (q' * 2 ^ k) b
-      go true h l =
-          let e : s .0 * 2 ^ (s .1 - k) * 2 ^ k ≡ b = mul-assoc (s .0) (2 ^ (s .1 - k)) (2 ^ k) ∙ ap (λ (z : ℕ). s .0 * z) (sym (pow-add 2 (s .1 - k) k) ∙ ap (λ (z : ℕ). 2 ^ z) (back (s .1) k (h tt))) ∙ sym (s .3) in
-          subst (λ (z : ℕ). Nearer n (q' * 2 ^ k) z) e (coarse (s .0 * 2 ^ (s .1 - k)))
-      go false h l =
-          fine b (subst (λ (z : ℕ). z < 2 ^ 23 * 2 ^ k) (sym (s .3))
-          (lt-of-lt-of-le (mul-lt-mul-of-pos-right (s .2) (pow-pos (s .1)))
-          (le-trans (le-of-eq (mul-assoc (2 ^ 23) 2 (2 ^ s .1) ∙ ap (λ (z : ℕ). 2 ^ 23 * z) (sym (pow-succ' 2 (s .1))))) (mul-le-mul-left (2 ^ 23) (pow-mono (l tt))))))
+  nearer b s = elim (decLe k (s .1)) [
+    | yes h ↦
+        let e : s .0 * 2 ^ (s .1 - k) * 2 ^ k ≡ b = mul-assoc (s .0) (2 ^ (s .1 - k)) (2 ^ k) ∙ ap (λ (z : ℕ). s .0 * z) (sym (pow-add 2 (s .1 - k) k) ∙ ap (λ (z : ℕ). 2 ^ z) (back (s .1) k h)) ∙ sym (s .3) in
+        subst (λ (z : ℕ). Nearer n (q' * 2 ^ k) z) e (coarse (s .0 * 2 ^ (s .1 - k)))
+    | no h ↦
+        fine b (subst (λ (z : ℕ). z < 2 ^ 23 * 2 ^ k) (sym (s .3))
+        (lt-of-lt-of-le (mul-lt-mul-of-pos-right (s .2) (pow-pos (s .1)))
+        (le-trans (le-of-eq (mul-assoc (2 ^ 23) 2 (2 ^ s .1) ∙ ap (λ (z : ℕ). 2 ^ 23 * z) (sym (pow-succ' 2 (s .1))))) (mul-le-mul-left (2 ^ 23) (pow-mono (lt-of-not-le h))))))
+  ]
 
 -- ---- the definition's root
 
@@ -126,7 +126,7 @@ Settled n k q' = (2 ^ 23 ≤ q') × (q' ≤ 2 ^ 24) × Near n (q' * 2 ^ k) (2 ^ 
 
 settle : (n k q : ℕ) → 2 ^ 23 ≤ q → q < 2 ^ 24 → square (q * 2 ^ k) ≤ n → n < square ((q + 1) * 2 ^ k) → (4 * n ≡ square ((2 * q + 1) * 2 ^ k) → ⊥)
     → Settled n k (nearestStep n q k)
-settle n k q ge lt lo hi tie = go (leb (4 * n) m) (leb→le (4 * n) m) (nleb→lt (4 * n) m)
+settle n k q ge lt lo hi tie = elim (decLe (4 * n) m) [ yes h ↦ ⊎-elim (λ e. absurd (tie e)) below (eq-or-lt-of-le h) | no h ↦ above (lt-of-not-le h) ]
   where
     m : ℕ
     m = square ((2 * q + 1) * 2 ^ k)
@@ -136,10 +136,6 @@ settle n k q ge lt lo hi tie = go (leb (4 * n) m) (leb→le (4 * n) m) (nleb→l
 
     above : m < 4 * n → Settled n k (nearestStep n q k)
     above h = subst (λ (o : Ordering). Settled n k (nearest q o)) (sym (compare-gt (4 * n) m h)) (omega arith, lt, near-moves n q (2 ^ k) (pow-pos k) lo hi h, λ e. absurd (omega arith))
-
-    go : (t : Bool) → (T t → 4 * n ≤ m) → (T (not t) → m < 4 * n) → Settled n k (nearestStep n q k)
-    go true h l = ⊎-elim (λ e. absurd (tie e)) below (eq-or-lt-of-le (h tt))
-    go false h l = above (l tt)
 
 module _ (a : ℕ) (p : 0 < a) (short : Short a) (small : a < 2 ^ 277) where
   abbrev n : ℕ

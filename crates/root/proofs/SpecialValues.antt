@@ -1,21 +1,17 @@
 -- The definition's root at the values that document 01 names. Assumes nothing.
-use mathlib.Core.Path.{_≡_, refl, sym, ap, _∙_, subst}
+use mathlib.Core.Path.{_≡_, refl, sym, ap, _∙_}
 use mathlib.Core.Logic.{inl, inr}
 use mathlib.Core.Bool.{true, false}
-use Prim.Native.Nat.{ℕ, zero, suc, _+_, _*_}
+use Prim.Native.Nat.{ℕ, zero, suc, _*_}
 use native.Mathlib.Nat.{zero-mul}
 use native.Mathlib.Omega.{arith}
 use borrow.Author.Tests.{le-ltb}
-use lib.Dec.{T, ltb}
-use lib.IntN.{ℤ, pos}
+use lib.Dec.{T}
+use lib.IntN.{pos}
 use lib.Ieee.{Float, nan, inf, fin, binary32, up, down, lt, ofBits}
 use Rattle.root.specs.Root.{rootOf, rootBits}
 use Rattle.root.specs.Special.{SpecialRoots, SpecialBits}
 use Rattle.root.proofs.Patterns.{own-root, nan-written}
-
--- neither a zero nor a value with a plus is below zero
-none-below : (a b : ℕ) → b ≡ 0 → T (ltb a b) → ⊥
-none-below a b e t = subst T (le-ltb a b (omega arith)) t
 
 pub below-zero-root : (x : Float) → T (lt x (fin false 0 (pos 0))) → rootOf x ≡ nan
 unfolding lt rootOf
@@ -23,11 +19,8 @@ below-zero-root nan t = refl
 below-zero-root (inf true) t = refl
 below-zero-root (inf false) t = absurd t
 below-zero-root (fin true (suc m) e) t = refl
-below-zero-root (fin true zero e) t = absurd (none-below 0 (0 * up e * 1 + 0 * down e) (nothing e) t)
-  where
-    nothing : (e : ℤ) → 0 * up e * 1 + 0 * down e ≡ 0
-    nothing e = let a = zero-mul (up e) in let b = zero-mul (down e) in omega arith
-below-zero-root (fin false m e) t = absurd (none-below (m * up e * 1) (0 * down e) (zero-mul (down e)) t)
+below-zero-root (fin true zero e) t = absurd (rw (zero-mul (up e), zero-mul (down e)) at t)
+below-zero-root (fin false m e) t = absurd (rw (zero-mul (down e), le-ltb (m * up e * 1) 0 (omega arith)) at t)
 
 pub special-roots : (x r : Float) → r ≡ rootOf x → SpecialRoots x r
 unfolding rootOf

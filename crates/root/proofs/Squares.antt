@@ -13,7 +13,7 @@ square-add a b =
     omega arith
 
 pub square-mul : (a b : ℕ) → square (a * b) ≡ square a * square b
-square-mul a b = simp (mul-assoc, mul-left-comm, mul-comm)
+square-mul a b = simp (mul-assoc, mul-left-comm)
 
 -- the square of 2 * q + 1
 pub square-odd : (q : ℕ) → square (2 * q + 1) ≡ 4 * square q + 4 * q + 1

@@ -3,12 +3,12 @@ use mathlib.Core.Path.{_≡_, refl, sym, ap, _∙_}
 use mathlib.Core.Bool.{Bool, true, false}
 use mathlib.Core.List.{List, [], _∷_, _++_, append-nil}
 use Prim.Native.Nat.{ℕ, suc, _<_}
-use native.Mathlib.Nat.{suc-ne-zero, suc-inj, le-of-suc-le-suc, not-suc-le-zero}
+use native.Mathlib.Nat.{suc-ne-zero, suc-inj}
 use lib.Dec.{eqb}
 use lib.ListN.{length, take, drop}
 use lib.Seq.{append-snoc}
-use borrow.Author.Tests.{eqb-true}
 use Rattle.bytes.specs.Bytes.{indexAfter, indexOf}
+use Rattle.line.proofs.Cuts.{cut-at}
 use Rattle.answer.specs.Answer.{replyTo}
 use Rattle.text.specs.Run.{runFrom}
 use Rattle.text.specs.Block.{after, blockFrom, blockOf}
@@ -39,21 +39,21 @@ plain-snoc [] x h e = plain-cons x [] e plain-nil
 plain-snoc (y ∷ ys) x h e =
     plain-cons y (ys ++ (x ∷ [])) (plain-parts y ys h .0) (plain-snoc ys x (plain-parts y ys h .1) e)
 
+-- what gathers each byte that is no newline gathers a text that has none
+gathers : {A : Type 0} (F : List ℕ → List ℕ → A) → ((part : List ℕ) (x : ℕ) (xs : List ℕ) → eqb x 10 ≡ false → F part (x ∷ xs) ≡ F (part ++ (x ∷ [])) xs)
+    → (part xs ys : List ℕ) → Plain xs → F part (xs ++ ys) ≡ F (part ++ xs) ys
+gathers F step part [] ys h = ap (λ (p : List ℕ). F p ys) (sym (append-nil part))
+gathers F step part (x ∷ xs) ys h =
+    let p = plain-parts x xs h in
+    step part x (xs ++ ys) (p .0) ∙ gathers F step (part ++ (x ∷ [])) xs ys (p .1) ∙ ap (λ (p : List ℕ). F p ys) (append-snoc part x xs)
+
 pub run-gathers : (n : ℕ) (part xs ys : List ℕ) → Plain xs → runFrom n part (xs ++ ys) ≡ runFrom n (part ++ xs) ys
 unfolding runFrom
-run-gathers n part [] ys h = ap (λ (p : List ℕ). runFrom n p ys) (sym (append-nil part))
-run-gathers n part (x ∷ xs) ys h =
-    rw (plain-parts x xs h .0)
-    (run-gathers n (part ++ (x ∷ [])) xs ys (plain-parts x xs h .1)
-    ∙ ap (λ (p : List ℕ). runFrom n p ys) (append-snoc part x xs))
+run-gathers n = gathers (runFrom n) (λ part x xs e. rw e)
 
-pub block-gathers : (n : ℕ) (part xs ys : List ℕ) → Plain xs → blockFrom n part (xs ++ ys) ≡ blockFrom n (part ++ xs) ys
+block-gathers : (n : ℕ) (part xs ys : List ℕ) → Plain xs → blockFrom n part (xs ++ ys) ≡ blockFrom n (part ++ xs) ys
 unfolding blockFrom
-block-gathers n part [] ys h = ap (λ (p : List ℕ). blockFrom n p ys) (sym (append-nil part))
-block-gathers n part (x ∷ xs) ys h =
-    rw (plain-parts x xs h .0)
-    (block-gathers n (part ++ (x ∷ [])) xs ys (plain-parts x xs h .1)
-    ∙ ap (λ (p : List ℕ). blockFrom n p ys) (append-snoc part x xs))
+block-gathers n = gathers (blockFrom n) (λ part x xs e. rw e)
 
 -- a whole line and what follows
 pub whole-line : (n : ℕ) (xs ys : List ℕ) → Plain xs → blockOf n (xs ++ 10 ∷ ys) ≡ after (replyTo n xs) n (blockOf (suc n) ys)
@@ -64,20 +64,6 @@ whole-line n xs ys h = block-gathers n [] xs (10 ∷ ys) h
 pub part-line : (n : ℕ) (xs : List ℕ) → Plain xs → blockOf n xs ≡ blockFrom n xs []
 unfolding blockOf
 part-line n xs h = ap (blockFrom n []) (sym (append-nil xs)) ∙ block-gathers n [] xs [] h
-
--- the first newline cuts a list
-abbrev Cut : ℕ → List ℕ → Type 0
-Cut k xs = xs ≡ take k xs ++ 10 ∷ drop (suc k) xs
-
-cut-after : (t : Bool) (x k : ℕ) (xs : List ℕ) → eqb x 10 ≡ t → indexAfter t k < suc (length xs) → (k < length xs → Cut k xs) → Cut (indexAfter t k) (x ∷ xs)
-unfolding indexAfter
-cut-after true x k xs e h ih = ap (λ (y : ℕ). y ∷ xs) (eqb-true x 10 e)
-cut-after false x k xs e h ih = ap (λ (ys : List ℕ). x ∷ ys) (ih (le-of-suc-le-suc h))
-
-pub cut : (xs : List ℕ) → indexOf 10 xs < length xs → Cut (indexOf 10 xs) xs
-unfolding indexOf
-cut [] h = absurd (not-suc-le-zero h)
-cut (x ∷ xs) h = cut-after (eqb x 10) x (indexOf 10 xs) xs refl h (cut xs)
 
 plain-after : (t : Bool) (x k : ℕ) (xs : List ℕ) → eqb x 10 ≡ t → Plain (take k xs) → Plain (take (indexAfter t k) (x ∷ xs))
 unfolding indexAfter
@@ -91,4 +77,4 @@ plain-front (x ∷ xs) = plain-after (eqb x 10) x (indexOf 10 xs) xs refl (plain
 
 pub next-line : (n : ℕ) (xs : List ℕ) → indexOf 10 xs < length xs → blockOf n xs ≡ after (replyTo n (take (indexOf 10 xs) xs)) n (blockOf (suc n) (drop (suc (indexOf 10 xs)) xs))
 next-line n xs h =
-    ap (blockOf n) (cut xs h) ∙ whole-line n (take (indexOf 10 xs) xs) (drop (suc (indexOf 10 xs)) xs) (plain-front xs)
+    ap (blockOf n) (cut-at 10 xs h) ∙ whole-line n (take (indexOf 10 xs) xs) (drop (suc (indexOf 10 xs)) xs) (plain-front xs)

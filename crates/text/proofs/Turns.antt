@@ -1,6 +1,6 @@
 -- The loop over the lines of a block: how it begins, one line, and its ways out. Assumes nothing.
-use mathlib.Core.Path.{_≡_, refl, sym, ap, _∙_, subst}
-use mathlib.Core.Bool.{Bool, true, false, cond}
+use mathlib.Core.Path.{_≡_, refl, sym, ap, _∙_}
+use mathlib.Core.Bool.{Bool, true, false}
 use mathlib.Core.List.{List, [], _++_, append-assoc}
 use Prim.Native.Nat.{ℕ, suc, _+_, _-_, _≤_, _<_}
 use native.Mathlib.Numerals.{add-one}
@@ -21,11 +21,11 @@ behind-twice s t x = ap (λ (w : List ℕ). block w (x .left) (x .number) (x .ov
 goes-on : (r : Reply) (n : ℕ) (x : Block) → ends r ≡ false → after r n x ≡ behind (printed n r) x
 unfolding printed
 goes-on (answer text) n x e = refl
-goes-on (refusal why) n x e = absurd (subst (λ (t : Bool). cond t Unit ⊥) e tt)
+goes-on (refusal why) n x e = cc
 
 goes-not : (r : Reply) (n : ℕ) (x : Block) → ends r ≡ true → after r n x ≡ block (printed n r) [] n true
 unfolding printed
-goes-not (answer text) n x e = absurd (subst (λ (t : Bool). cond t ⊥ Unit) e tt)
+goes-not (answer text) n x e = cc
 goes-not (refusal why) n x e = refl
 
 -- where line n begins at `at` and ends before `end`, and `put` bytes have been put

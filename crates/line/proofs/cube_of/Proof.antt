@@ -28,7 +28,15 @@ float-requires-8 : tie.Need-float-requires-8
 float-requires-8 c κs = search needs
 
 returns : tie.Need-returns
-returns c = cc
+returns c =
+    let a7 = c .before in
+    let a6 = a7 .before in
+    let a5 = a6 .before in
+    let a4 = a5 .before in
+    let a3 = a4 .before in
+    let a2 = a3 .before in
+    let a1 = a2 .before in
+    rw (c .float8 .ensures, a7 .float7 .ensures, a6 .float6 .ensures, a5 .float5 .ensures, a4 .float4 .ensures, a3 .float3 .ensures, a2 .float2 .ensures, a1 .float .ensures)
 
 pub cube-of-spec : {M : Type 1} → statement M
 cube-of-spec =

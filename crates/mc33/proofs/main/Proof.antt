@@ -1,5 +1,5 @@
 -- `mc33::main` is safe and ends: the measure is the number of turns that are left. The two rooms keep their lengths. Assumes nothing.
-use mathlib.Core.Path.{_≡_, refl, sym}
+use mathlib.Core.Path.{_≡_}
 use Prim.Native.Nat.{ℕ, _≤_}
 use native.Mathlib.Omega.{arith}
 use borrow.Author.Needs.{needs}

@@ -12,7 +12,7 @@ up-and-down-requires-2 c κs = search needs
 
 returns : tie.Need-returns
 unfolding alternate
-returns c = cc
+returns c = rw (c .up-and-down2 .ensures, c .before .up-and-down .ensures)
 
 pub alternates-spec : {M : Type 1} → statement M
 alternates-spec = tie.close (tie.spec up-and-down-requires up-and-down-requires-2 returns)

@@ -18,7 +18,7 @@ ranged-requires-4 c κs = search needs
 
 returns : tie.Need-returns
 unfolding upAndDown
-returns c = cc
+returns c = rw (c .ranged4 .ensures, c .before .ranged3 .ensures, c .before .before .ranged2 .ensures, c .before .before .before .ranged .ensures)
 
 pub up-and-down-spec : {M : Type 1} → statement M
 up-and-down-spec =
