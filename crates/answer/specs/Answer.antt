@@ -3,7 +3,6 @@ use Prim.Native.Nat.{ℕ}
 use mathlib.Core.Bool.{Bool, true, false, cond, _&&_}
 use mathlib.Core.List.{List, [], _∷_, _++_}
 use lib.Dec.{eqb, leb}
-use lib.ListN.{length}
 use Rattle.cube.specs.Bits.{bitOf}
 use Rattle.tilings.specs.Plan.{Chosen, empty, noTiling, tiling, refused}
 use Rattle.choice.specs.Choice.{choiceOf}

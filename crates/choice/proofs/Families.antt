@@ -16,6 +16,7 @@ use Rattle.cube.specs.declared.Split.{Split}
 use Rattle.cube.specs.declared.Split.the-variants.{NotBelow, Below}
 use Rattle.cube.specs.Signs.{splitValue}
 use Rattle.cube.proofs.Signs.{taken}
+use Rattle.cube.proofs.Table.{NoneFrom, past-all}
 use Rattle.cube.specs.Corners.{allFinite}
 use Rattle.cube.specs.declared.Refusal.{Refusal}
 use Rattle.cube.specs.Refusals.{refusalNumber}
@@ -25,7 +26,6 @@ use Rattle.tilings.specs.Plan as Plan
 use Rattle.tilings.specs.Plan.{Chosen, empty, run}
 use Rattle.tilings.specs.Answers.{answersOf}
 use Rattle.families.specs.Plans.{plans, planOf}
-use Rattle.families.proofs.Families.{NoneUnder, past-all}
 use Rattle.choice.specs.Choice.{isCase, natOf, choiceOf, refusalOf}
 use Rattle.choice.specs.declared.Family.{Family}
 use Rattle.choice.specs.declared.Family.the-variants.{Nothing, Known, Refused}
@@ -33,10 +33,10 @@ use Rattle.choice.specs.Kin.{Kin, nothing, known, refused, kinOf, kin}
 use Rattle.choice.proofs.Ranges.{never-refused}
 
 -- past case 14 there are no configurations, nor from 0 for case 0
-pub no-more : (k : ℕ) → NoneUnder 14 k → 0 ≡ getD configurations k 0
+pub no-more : (k : ℕ) → NoneFrom 1 14 k → 0 ≡ getD configurations k 0
 unfolding configurations
 no-more zero h = refl
-no-more (suc k) h = sym (List·getD-eq-default configurations 0 (past-all 14 (suc k) (omega arith) h))
+no-more (suc k) h = sym (List·getD-eq-default configurations 0 (past-all 1 14 (suc k) (omega arith) h))
 
 module _ (z : ℤ) (r : Split) (f : SFits w8 z) (e : splitValue r ≡ toZ w8 (ofZ w8 z)) where
   -- ---- z is the configuration

@@ -1,11 +1,12 @@
 -- A table's rule is computed at every index below a bound: a test (`under`), or an equation of two lists of values (`agree`). These laws turn it into
--- the rule at each index. Assumes nothing.
+-- the rule at each index; what is none of a table's indices is past it (`past-all`). Assumes nothing.
 use mathlib.Core.Path.{_≡_, subst, sym, ap}
 use mathlib.Core.Logic.{inl, inr}
 use mathlib.Core.Bool.{Bool, true, _&&_}
 use mathlib.Core.List.{List, [], _∷_, headD, tail}
-use Prim.Native.Nat.{ℕ, zero, suc, _<_}
+use Prim.Native.Nat.{ℕ, zero, suc, _+_, _<_, _≤_}
 use native.Mathlib.Nat.{eq-or-lt-of-le, le-of-suc-le-suc, not-suc-le-zero}
+use native.Mathlib.Omega.{arith}
 use lib.Dec.{T}
 use lib.Ieee.Fits.{and-l, and-r}
 
@@ -35,3 +36,12 @@ module _ {A : Type 0} where
         | inl i ↦ subst (λ (j : ℕ). f j ≡ g j) (sym i) (ap (λ (xs : List A). headD xs (f n)) e)
         | inr l ↦ agree f g n (ap tail e) k l
       ]
+
+-- k is none of the n numbers from a on, as a match tells it
+abbrev pub NoneFrom : ℕ → ℕ → ℕ → Type 0
+NoneFrom a zero k = Unit {0}
+NoneFrom a (suc n) k = NoneFrom a n k × (k ≡ n + a → ⊥)
+
+pub past-all : (a n k : ℕ) → a ≤ k → NoneFrom a n k → n + a ≤ k
+past-all a zero k i h = omega arith
+past-all a (suc n) k i h = let l = past-all a n k i (h .0) in let d = h .1 in omega arith

@@ -2,7 +2,7 @@
 use mathlib.Core.Path.{_≡_, refl, sym, ap, _∙_}
 use mathlib.Core.Bool.{Bool, true, false, cond, _&&_}
 use mathlib.Core.List.{List, []}
-use Prim.Native.Nat.{ℕ, zero, suc, _+_, _*_, _<_, _≤_}
+use Prim.Native.Nat.{ℕ, _+_, _*_, _<_, _≤_}
 use native.Mathlib.Omega.{arith}
 use borrow.Author.Tests.{ltb-true, ltb-false}
 use lib.Dec.{T, ltb, eqb, eqb→eq, lit<}
@@ -11,7 +11,7 @@ use lib.ListN.{getD, List·getD-eq-default}
 use lib.Ieee.{Float, binary32, sub}
 use lib.Ieee.Fits.{and-l, and-r}
 use Rattle.cube.specs.Corners.{digitOf, valueAt}
-use Rattle.cube.proofs.Table.{allUnder, under}
+use Rattle.cube.proofs.Table.{allUnder, under, NoneFrom, past-all}
 use Rattle.edge.specs.declared.Moves.{Moves}
 use Rattle.edge.specs.Edge.{Move, _⟶_, moves, moveOf}
 use Rattle.edge.specs.Columns.{placeOf, packed, rowOf}
@@ -64,18 +64,9 @@ digit (negsuc n) j h = none j h
 pub by-number : {i k : ℕ} → k ≡ i → rowOf i ≡ rowOf k
 by-number e = ap rowOf (sym e)
 
--- k is none of the numbers below n, as a match tells it
-abbrev pub NoneUnder : ℕ → ℕ → Type 0
-NoneUnder zero k = Unit {0}
-NoneUnder (suc n) k = NoneUnder n k × (k ≡ n → ⊥)
-
-past : (n k : ℕ) → NoneUnder n k → n ≤ k
-past zero k h = omega arith
-past (suc n) k h = let l = past n k (h .0) in let d = h .1 in omega arith
-
-pub past-rows : (k : ℕ) → NoneUnder 12 k → 0 ≡ rowOf k
+pub past-rows : (k : ℕ) → NoneFrom 0 12 k → 0 ≡ rowOf k
 unfolding rowOf moves
-past-rows k h = sym (ap packed (List·getD-eq-default moves [] (past 12 k h)))
+past-rows k h = sym (ap packed (List·getD-eq-default moves [] (past-all 0 12 k (omega arith) h)))
 
 -- ---- what the code reads
 module _ (vs : List Float) (n : ℤ) (k r : ℕ) (ek : k ≡ placeOf n) (er : r ≡ rowOf k) where

@@ -5,6 +5,7 @@ use Prim.Native.Nat.{_*_}
 use borrow.Author.Tests.{eq-eqb}
 use lib.Ieee.{Float, nan, inf, fin, binary32, up, down, neg, add, sub, mul, div, lt, eq, ne, isNan, ofBits}
 use Rattle.binary32.specs.Numbers.{f32}
+use Rattle.binary32.proofs.Magnitudes.{mul-nan}
 use Rattle.edge.specs.declared.Moves.{Moves}
 use Rattle.edge.specs.Edge.{Told, rising, beyond, crossed, blank, aOf, bOf, crossBy, readBy}
 use Rattle.edge.specs.Moves.{productOf, readOf}
@@ -15,14 +16,9 @@ placeAt u g t = add binary32 u (mul binary32 g t)
 
 -- ---- a NaN t makes the product a NaN, so the code tests the product alone
 place-nan : (u g : Float) → placeAt u g nan ≡ nan
-unfolding add mul
-place-nan u g = rw (times-nan g) (plus-nan u)
+unfolding add
+place-nan u g = rw (mul-nan binary32 g) (plus-nan u)
   where
-    times-nan : (x : Float) → mul binary32 x nan ≡ nan
-    times-nan nan = refl
-    times-nan (inf s) = refl
-    times-nan (fin s m e) = refl
-
     plus-nan : (x : Float) → add binary32 x nan ≡ nan
     plus-nan nan = refl
     plus-nan (inf s) = refl

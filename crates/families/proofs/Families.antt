@@ -8,7 +8,7 @@ use native.Mathlib.Omega.{arith}
 use borrow.Author.Tests.{ne-eqb}
 use lib.ListN.{getD, List·getD-eq-default}
 use Rattle.cube.specs.declared.Cube.{Cube}
-use Rattle.cube.proofs.Table.{agree}
+use Rattle.cube.proofs.Table.{agree, NoneFrom, past-all}
 use Rattle.notes.specs.Notes.{noNotes}
 use Rattle.tilings.specs.Tilings.{configurations, tilingsOf, firstTiling, isOneOf, hasCentre}
 use Rattle.tilings.specs.Plan.{Chosen, tiling, run}
@@ -34,20 +34,11 @@ module _ {case c : ℕ} where
 pub reached : {case : ℕ} (q : Cube) (c : ℕ) {k : ℕ} → case ≡ k → {x : Chosen} → x ≡ run (answersOf q) (planOf k c) noNotes → x ≡ run (answersOf q) (planOf case c) noNotes
 reached q c e f = f ∙ ap (λ (j : ℕ). run (answersOf q) (planOf j c) noNotes) (sym e)
 
--- k is none of the numbers below n, as a match tells it
-abbrev pub NoneUnder : ℕ → ℕ → Type 0
-NoneUnder zero k = Unit {0}
-NoneUnder (suc n) k = NoneUnder n k × (k ≡ suc n → ⊥)
-
-pub past-all : (n k : ℕ) → 0 < k → NoneUnder n k → n < k
-past-all zero k i h = i
-past-all (suc n) k i h = let l = past-all n k i (h .0) in let d = h .1 in omega arith
-
 -- past case 14 there is no tiling, nor for case 0
-pub no-first : (k : ℕ) → NoneUnder 14 k → 0 ≡ firstTiling k
+pub no-first : (k : ℕ) → NoneFrom 1 14 k → 0 ≡ firstTiling k
 unfolding firstTiling tilingsOf
 no-first zero h = refl
-no-first (suc k) h = sym (ap (λ (codes : List ℕ). getD codes 0 0) (List·getD-eq-default tilingsOf [] (past-all 14 (suc k) (omega arith) h)))
+no-first (suc k) h = sym (ap (λ (codes : List ℕ). getD codes 0 0) (List·getD-eq-default tilingsOf [] (past-all 1 14 (suc k) (omega arith) h)))
 
 module _ (q : Cube) (c : ℕ) where
   abbrev byPlan : ℕ → Chosen
