@@ -1,6 +1,6 @@
--- What is kept is what the block left: its bytes, at most 81, moved to the front. Assumes nothing.
-use mathlib.Core.Path.{_≡_, sym, ap, _∙_, subst}
-use mathlib.Core.Bool.{Bool, true, false}
+-- What is kept is what the block left: its bytes, at most 81, moved to the front; and what was put is what it wrote. Assumes nothing.
+use mathlib.Core.Path.{_≡_, refl, sym, ap, _∙_, subst}
+use mathlib.Core.Bool.{Bool, true, false, true≢false, not}
 use mathlib.Core.List.{List}
 use Prim.Native.Nat.{ℕ, _-_, _≤_}
 use native.Mathlib.Nat.{sub-zero}
@@ -12,26 +12,48 @@ use Rattle.put.proofs.Placed.{placed-front}
 use Rattle.line.proofs.Cuts.{drop-take}
 use Rattle.text.specs.Block.{Block, block, blockOf}
 use Rattle.text.proofs.Joins.{left-short}
-use Rattle.mc33.specs.Kept.{Kept}
+use Rattle.mc33.specs.declared.State.{State}
+use Rattle.mc33.specs.Kept.{Begins, Kept}
+
+-- what was put stands at the front
+front : (out text : List ℕ) (put : ℕ) → put ≤ length out → take put out ≡ text → Begins out text
+front out text put h e = ap (λ (n : ℕ). take n out) (ap length (sym e) ∙ length-take-le put out h) ∙ e
+
+pub placed-begins : (xs ys text : List ℕ) → ys ≡ placed xs 0 text → Begins ys text
+placed-begins xs ys text e = ap (take (length text)) e ∙ placed-front xs text (length text) refl
 
 -- the bytes up to n were lent as those from 0 to n
-pub kept : (xs ys : List ℕ) (first n left have number : ℕ) (written : List ℕ) (over : Bool) → left ≤ n → n ≤ length xs
-    → block written (drop left (take (n - 0) xs)) number over ≡ blockOf first (take (n - 0) xs) → over ≡ false
-    → have ≡ n - left → ys ≡ placed xs 0 (take (n - left) (drop left xs))
-    → (have ≤ 81) × Kept true (take have ys) number (blockOf first (take n xs))
-kept xs ys first n left have number written over h l e o a b =
-    let i = subst (λ (m : ℕ). block written (drop left (take m xs)) number over ≡ blockOf first (take m xs)) (sub-zero n) e in
-    let j = ap (λ (y : Block). y .left) i in (
-      omega (arith, a, ap length j, left-short first (take n xs), length-drop left (take n xs), length-take-le n xs l),
-      λ t. (
-        ap (λ (y : Block). y .over) (sym i) ∙ o,
-        (
-          ap (λ (m : ℕ). take m ys) a
+module _ (r : State) (xs ys out : List ℕ) (first n left number put : ℕ) (over : Bool) (h : left ≤ n) (l : n ≤ length xs) (room : put ≤ length out)
+    (e : block (take put out) (drop left (take (n - 0) xs)) number over ≡ blockOf first (take (n - 0) xs)) where
+  lent : block (take put out) (drop left (take n xs)) number over ≡ blockOf first (take n xs)
+  lent = subst (λ (m : ℕ). block (take put out) (drop left (take m xs)) number over ≡ blockOf first (take m xs)) (sub-zero n) e
+
+  text : Begins out (blockOf first (take n xs) .written)
+  text = front out (blockOf first (take n xs) .written) put room (ap (λ (x : Block). x .written) lent)
+
+  -- the block was the end
+  pub kept-none : over ≡ true → r .going ≡ false → Kept r ys out (blockOf first (take n xs))
+  kept-none o g = record {
+    text = text;
+    goes = g ∙ ap not (sym o ∙ ap (λ (x : Block). x .over) lent);
+    left = λ t. absurd (true≢false (sym t ∙ g));
+    number = λ t. absurd (true≢false (sym t ∙ g));
+  }
+
+  pub kept : over ≡ false → r .going ≡ true → r .number ≡ number → r .have ≡ n - left → ys ≡ placed xs 0 (take (n - left) (drop left xs))
+      → (r .have ≤ 81) × Kept r ys out (blockOf first (take n xs))
+  kept o g k a b =
+      let j = ap (λ (x : Block). x .left) lent in (
+        omega (arith, a, ap length j, left-short first (take n xs), length-drop left (take n xs), length-take-le n xs l),
+        record {
+          text = text;
+          goes = g ∙ ap not (sym o ∙ ap (λ (x : Block). x .over) lent);
+          left = λ t.
+              ap (λ (m : ℕ). take m ys) a
               ∙ ap (take (n - left)) b
               ∙ placed-front xs (take (n - left) (drop left xs)) (n - left) (length-take-le (n - left) (drop left xs) (omega (arith, length-drop left xs)))
               ∙ sym (drop-take left n xs)
-              ∙ j,
-          ap (λ (y : Block). y .number) i,
-        ),
-      ),
-    )
+              ∙ j;
+          number = λ t. k ∙ ap (λ (x : Block). x .number) lent;
+        },
+      )

@@ -1,9 +1,11 @@
--- `mc33::answer` keeps what its block leaves, at most 81 bytes; a stopped program keeps nothing. Assumes nothing.
+-- `mc33::answer` keeps what its block leaves, at most 81 bytes, and stops where the block was the end or something failed. Assumes nothing.
 use borrow.Author.Needs.{needs}
-use mathlib.Core.Path.{sym, _∙_, subst}
+use borrow.Author.Tests.{not-true, le-ltb}
+use mathlib.Core.Path.{refl}
+use mathlib.Core.Bool.{true, false}
+use mathlib.Core.Logic.{inl, inr}
 use native.Mathlib.Omega.{arith}
-use lib.Dec.{T}
-use Rattle.mc33.proofs.Keeping.{kept}
+use Rattle.mc33.proofs.Keeping.{kept, kept-none}
 use Rattle.mc33.proofs.answer.Statement.{statement}
 use Rattle.mc33.proofs.answer.Tie as tie
 
@@ -11,10 +13,10 @@ slice-aggregate-failed : tie.Need-slice-aggregate-failed
 slice-aggregate-failed c = search needs
 
 failed-requires : tie.Need-failed-requires
-failed-requires c κs = search needs
+failed-requires c κs = le-ltb _ _ (c .before .if1 .taken)
 
 returns : tie.Need-returns
-returns c = (c .failed .ensures .0, λ t. absurd (subst T (sym t ∙ c .failed .ensures .1) tt))
+returns c = (c .failed .ensures .0, inl (c .failed .ensures .1))
 
 sub-answer-block : tie.Need-sub-answer-block
 sub-answer-block c = search needs
@@ -44,7 +46,7 @@ slice-aggregate-failed-2 : tie.Need-slice-aggregate-failed-2
 slice-aggregate-failed-2 c = search needs
 
 failed-requires-2 : tie.Need-failed-requires-2
-failed-requires-2 c κs = search needs
+failed-requires-2 c κs = not-true _ (c .before .if2 .taken)
 
 same-length : tie.Need-same-length
 same-length c = search needs
@@ -53,10 +55,10 @@ same-length-2 : tie.Need-same-length-2
 same-length-2 c = search needs
 
 returns-2 : tie.Need-returns-2
-returns-2 c = (c .failed2 .ensures .0, λ t. absurd (subst T (sym t ∙ c .failed2 .ensures .1) tt))
+returns-2 c = (c .failed2 .ensures .0, inl (c .failed2 .ensures .1))
 
-stopped-requires : tie.Need-stopped-requires
-stopped-requires c κs = search needs
+empty-requires : tie.Need-empty-requires
+empty-requires c κs = search needs
 
 same-length-3 : tie.Need-same-length-3
 same-length-3 c = search needs
@@ -65,7 +67,14 @@ same-length-4 : tie.Need-same-length-4
 same-length-4 c = search needs
 
 returns-3 : tie.Need-returns-3
-returns-3 c = (c .stopped .ensures .0, λ t. absurd (subst T (sym t ∙ c .stopped .ensures .1) tt))
+returns-3 c =
+    let b = c .before .before .before .before .before .before .before .before in
+    let s = b .before .before .before .before .before .before .before in
+    let x = b .answer-block in (
+      omega arith,
+      inr (kept-none (c .empty .result) (s .args .buf .now) (s .args .buf .now) (x .last .1 .1 .0) (s .args .number) (s .args .n) (x .result .left) (x .result .number) (x .result .put) (x .result .over)
+          (omega arith) (omega arith) (omega arith) (x .ensures .0) (c .before .if3 .taken) (c .empty .ensures .1 .1)),
+    )
 
 to-front-requires : tie.Need-to-front-requires
 to-front-requires c κs = search needs
@@ -78,13 +87,14 @@ same-length-6 c = search needs
 
 returns-4 : tie.Need-returns-4
 returns-4 c =
+    let f = c .before .before .to-front in
     let b = c .before .before .before .before .before .before .before .before .before .before .before in
     let s = b .before .before .before .before .before .before .before in
-    let n = s .args .n in
-    kept (s .args .buf .now) (c .before .before .to-front .last .0) (s .args .number) n (b .answer-block .result .left) (c .before .before .to-front .result)
-    (b .answer-block .result .number) _ (b .answer-block .result .over) (omega arith) (omega arith)
-    (b .answer-block .ensures .0) (c .before .before .before .before .if3 .left)
-    (c .before .before .to-front .ensures .0) (c .before .before .to-front .ensures .1)
+    let x = b .answer-block in
+    let k = kept (record { have = f .result; number = x .result .number; going = true; failed = false })
+    (s .args .buf .now) (f .last .0) (x .last .1 .1 .0) (s .args .number) (s .args .n) (x .result .left) (x .result .number) (x .result .put) (x .result .over)
+    (omega arith) (omega arith) (omega arith) (x .ensures .0) (c .before .before .before .before .if3 .left) refl refl (f .ensures .0) (f .ensures .1) in
+    (k .0, inr (k .1))
 
 pub answer-spec : {M : Type 1} → statement M
 answer-spec =
@@ -106,7 +116,7 @@ answer-spec =
     same-length
     same-length-2
     returns-2
-    stopped-requires
+    empty-requires
     same-length-3
     same-length-4
     returns-3

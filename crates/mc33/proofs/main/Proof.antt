@@ -13,8 +13,8 @@ Inv-loop buf₀ out₀ state₀ turns₀ buf out state turns = (length buf ≡ 6
 abbrev μ-loop : tie.MeasureT-loop
 μ-loop buf₀ out₀ state₀ turns₀ buf out state turns = turns
 
-begun-requires : tie.Need-begun-requires Inv-loop μ-loop
-begun-requires c κs = search needs
+empty-requires : tie.Need-empty-requires Inv-loop μ-loop
+empty-requires c κs = search needs
 
 loop-holds : tie.Need-loop-holds Inv-loop μ-loop
 loop-holds c = (length-replicate {A = ℕ} 65536 0, (length-replicate {A = ℕ} 65664 0, omega arith))
@@ -49,7 +49,7 @@ main-spec =
     (tie.spec
     Inv-loop
     μ-loop
-    begun-requires
+    empty-requires
     loop-holds
     slice-aggregate-turn
     slice-aggregate-turn-2
