@@ -10,9 +10,7 @@ use lib.IntN.{pos}
 use lib.Ieee.{Float, nan, inf, fin, binary32, up, down, round, sum, add, sub, eq, ofBits}
 use lib.Ieee.Fits.{down-pos}
 use lib.Ieee.Scale.{finite, round-same}
-
-abbrev pub nought : Float
-nought = fin false 0 (pos 0)
+use Rattle.binary32.specs.Numbers.{plusZero}
 
 -- nothing rounds to a zero of its sign
 pub round-nought : (s : Bool) (c : ℕ) → 0 < c → round binary32 s 0 c ≡ fin s 0 (pos 0)
@@ -25,26 +23,26 @@ round-nought s c h = round-same binary32 s 0 c 0 1 h (zero-lt-suc 0) (zero-mul 1
 not-less : (a : ℕ) → ltb a a ≡ false
 not-less a = le-ltb a a (omega arith)
 
-none-left : (s : Bool) (a c : ℕ) → 0 < c → sum binary32 s a (not s) a c ≡ nought
+none-left : (s : Bool) (a c : ℕ) → 0 < c → sum binary32 s a (not s) a c ≡ plusZero
 unfolding sum
 none-left true a c h = rw (not-less, sub-self, round-nought false c)
 none-left false a c h = rw (not-less, sub-self, round-nought false c)
 
-pub minus-itself : (x : Float) → sub binary32 x x ≡ cond (finite x) nought nan
+pub minus-itself : (x : Float) → sub binary32 x x ≡ cond (finite x) plusZero nan
 unfolding sub
 minus-itself nan = refl
 minus-itself (inf true) = refl
 minus-itself (inf false) = refl
 minus-itself (fin s m e) = none-left s (m * up e * down e) (down e * down e) (mul-pos (down-pos e) (down-pos e))
 
-pub both-finite : (p q : Bool) → add binary32 (cond p nought nan) (cond q nought nan) ≡ cond (p && q) nought nan
+pub both-finite : (p q : Bool) → add binary32 (cond p plusZero nan) (cond q plusZero nan) ≡ cond (p && q) plusZero nan
 unfolding add
 both-finite true true = refl
 both-finite true false = refl
 both-finite false q = refl
 
 -- 0.0 in code is the float of the bits 0
-pub is-nought : (p : Bool) → eq (cond p nought nan) (ofBits binary32 0) ≡ p
+pub is-nought : (p : Bool) → eq (cond p plusZero nan) (ofBits binary32 0) ≡ p
 unfolding eq ofBits
 is-nought true = refl
 is-nought false = refl

@@ -24,6 +24,10 @@ magnitude nan = nan
 magnitude (inf s) = inf false
 magnitude (fin s m e) = fin false m e
 
+-- +0
+abbrev pub plusZero : Float
+plusZero = fin false 0 (pos 0)
+
 -- 2 ^ -23, Rust's f32::EPSILON
 abbrev pub epsilon : Float
 epsilon = fin false 1 (negsuc 22)
@@ -36,6 +40,6 @@ f32 = record {
   times = mul binary32;
   small = ofInt binary32;
   tied = λ x. lt (magnitude x) epsilon;
-  above = λ x. lt (fin false 0 (pos 0)) x;
-  notBelow = λ x. le (fin false 0 (pos 0)) x;
+  above = λ x. lt plusZero x;
+  notBelow = λ x. le plusZero x;
 }

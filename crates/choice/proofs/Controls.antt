@@ -15,7 +15,7 @@ use Rattle.edge.specs.Edge.{moves, moveOf, crossBy, readBy, edgeBy}
 use Rattle.edge.specs.Moves.{movesOf}
 use Rattle.interior.specs.Pick.{diagonals, lastMatch, pickWith, pickBy}
 use Rattle.interior.specs.Interior.{joined, noteOf, seenAs, lookAt, insideBy, insideOf}
-use Rattle.thirteen.specs.Thirteen.{bothWithin, falseOnly, case13By, case13Of}
+use Rattle.thirteen.specs.Thirteen.{bothWithin, answerAt, case13By, case13Of}
 use Rattle.tilings.specs.Tilings.{configurations, tilingsOf, columnsOf, hasCentre}
 use Rattle.tilings.specs.Plan.{askInTurn, Chosen, empty, noTiling, tiling, refused, settled, run}
 use Rattle.two_faces.specs.Tables.{«TEST_10», «TEST_12»}
@@ -157,7 +157,7 @@ choices =
     ∷ []
 
 choices-hold : map (λ t. choiceOf (t .case) (t .configuration) (t .q)) choices ≡ map (λ t. t .says) choices
-unfolding choices choiceOf run settled askInTurn planOf plans plan3 plan4 plan6 part7 plan7 twoFaces plan10 plan12 parts13 lastFrom tile13 part13 plan13 «TEST_3» «TEST_4» «TEST_6» «TEST_7» «TEST_10» «TEST_12» «TEST_13» «SUB_CONFIG_13» configurations hasCentre faceOf faceBy rule faceCorner faceCorners insideOf insideBy joined lookAt seenAs noteOf pickBy pickWith lastMatch diagonals edgeBy readBy crossBy moveOf moves movesOf case13Of case13By falseOnly bothWithin rootOf rootUnits wholeRoot rootWithin cornerOf valueAt corners allFinite ofBits neg add sub mul div lt eq le isNan ofInt
+unfolding choices choiceOf run settled askInTurn planOf plans plan3 plan4 plan6 part7 plan7 twoFaces plan10 plan12 parts13 lastFrom tile13 part13 plan13 «TEST_3» «TEST_4» «TEST_6» «TEST_7» «TEST_10» «TEST_12» «TEST_13» «SUB_CONFIG_13» configurations hasCentre faceOf faceBy rule faceCorner faceCorners insideOf insideBy joined lookAt seenAs noteOf pickBy pickWith lastMatch diagonals edgeBy readBy crossBy moveOf moves movesOf case13Of case13By answerAt bothWithin rootOf rootUnits wholeRoot rootWithin cornerOf valueAt corners allFinite ofBits neg add sub mul div lt eq le isNan ofInt
 choices-hold = refl
 
 -- ---- ranges

@@ -6,7 +6,7 @@ use lib.IntN.{ℤ, pos, negsuc}
 use lib.Dec.{ltb}
 use lib.ListN.{getD}
 use lib.Ieee.{Float, fin, binary32, neg, add, sub, mul, div, lt, eq, isNan}
-use Rattle.binary32.specs.Numbers.{Numbers, f32}
+use Rattle.binary32.specs.Numbers.{Numbers, plusZero, f32}
 use Rattle.cube.specs.declared.Cube.{Cube}
 use Rattle.cube.specs.Corners.{cornerOf, allFinite}
 use Rattle.cube.specs.Refusals.{refusalNumber}
@@ -113,9 +113,6 @@ module _ (K : Numbers) where
 
 -- ---- binary32
 
-abbrev pub nil : Float
-nil = fin false 0 (pos 0)
-
 abbrev pub one : Float
 one = fin false 1 (pos 0)
 
@@ -126,12 +123,12 @@ abbrev pub quotients : Quotients f32
 quotients = record {
   Q = Float;
   turn = λ b a. div binary32 (neg b) (mul binary32 two a);
-  outside = λ t. lt t nil || lt one t;
+  outside = λ t. lt t plusZero || lt one t;
   place = λ u g t. add binary32 u (mul binary32 g t);
   product = λ w1 w2 w3 w4. sub binary32 (mul binary32 w1 w3) (mul binary32 w2 w4);
   none = isNan;
-  below = λ p. lt p nil;
-  nought = λ p. eq p nil;
+  below = λ p. lt p plusZero;
+  nought = λ p. eq p plusZero;
 }
 
 unfoldable pub edgeOf : Cube → ℤ → Told Float

@@ -23,7 +23,7 @@ use Rattle.tilings.specs.Answers.{answersOf, sideOf}
 use Rattle.tilings.proofs.Columns.{tableOf, rowed, in-rows}
 use Rattle.tilings.proofs.Turns.{in-turn, codeOf, columnOf}
 use Rattle.families.specs.Tables.{«TEST_3», «TEST_4», «TEST_6», «TEST_7»}
-use Rattle.families.specs.Plans.{plan3, plan4, plan6, part7, plan7, three}
+use Rattle.families.specs.Plans.{plan3, plan4, plan6, part7, plan7, faces125}
 
 -- a tiling in a table with one tiling a row, by what was counted
 abbrev made : ℕ → ℕ → Notes → Chosen
@@ -48,7 +48,7 @@ side-4 : (c : ℕ) → c < 8 → getD «TEST_4» c (pos 0) ≡ sideOf (ltb c 4)
 unfolding «TEST_4»
 side-4 c h = agree (λ k. getD «TEST_4» k (pos 0)) (λ k. sideOf (ltb k 4)) 8 refl c h
 
-pub four-settled : (q : Cube) (c : ℕ) → c < 8 → (s : ℤ) → s ≡ sideOf (ltb c 4) → (l : Look) → l ≡ insideOf q three s
+pub four-settled : (q : Cube) (c : ℕ) → c < 8 → (s : ℤ) → s ≡ sideOf (ltb c 4) → (l : Look) → l ≡ insideOf q faces125 s
     → settled l (made Tilings.«TILING_4_1» c) (made Tilings.«TILING_4_2» c) noNotes ≡ run (answersOf q) (plan4 c) noNotes
 unfolding run plan4
 four-settled q c h s e l f = rw (f, e, sym (side-4 c h))
@@ -81,7 +81,7 @@ side-7 : (c : ℕ) → c < 16 → negℤ (entry «TEST_7» c 3) ≡ sideOf (leb 
 unfolding «TEST_7»
 side-7 c h = agree (λ k. negℤ (entry «TEST_7» k 3)) (λ k. sideOf (leb 8 k)) 16 refl c h
 
-pub seven-settled : (q : Cube) (c sub : ℕ) → c < 16 → sub ≡ 7 → (s : ℤ) → s ≡ sideOf (leb 8 c) → (l : Look) → l ≡ insideOf q three s
+pub seven-settled : (q : Cube) (c sub : ℕ) → c < 16 → sub ≡ 7 → (s : ℤ) → s ≡ sideOf (leb 8 c) → (l : Look) → l ≡ insideOf q faces125 s
     → settled l (made Tilings.«TILING_7_4_1» c) (made Tilings.«TILING_7_4_2» c) noNotes ≡ run (answersOf q) (part7 c sub) noNotes
 unfolding run part7
 seven-settled q c sub h i s e l f = rw (i, f, e, sym (side-7 c h))

@@ -14,11 +14,11 @@ unfoldable pub plan3 : ℕ → Plan
 plan3 c = ask (face (getD «TEST_3» c (pos 0))) (tile «TILING_3_2» c 0) (tile «TILING_3_1» c 0)
 
 -- the interior test of cases 4 and 7 is made for faces 1, 2 and 5
-abbrev pub three : List ℕ
-three = 1 ∷ 2 ∷ 5 ∷ []
+abbrev pub faces125 : List ℕ
+faces125 = 1 ∷ 2 ∷ 5 ∷ []
 
 unfoldable pub plan4 : ℕ → Plan
-plan4 c = ask (inside three (getD «TEST_4» c (pos 0))) (tile «TILING_4_1» c 0) (tile «TILING_4_2» c 0)
+plan4 c = ask (inside faces125 (getD «TEST_4» c (pos 0))) (tile «TILING_4_1» c 0) (tile «TILING_4_2» c 0)
 
 unfoldable pub plan6 : ℕ → Plan
 plan6 c =
@@ -37,7 +37,7 @@ part7 c sub =
     ∷ tile «TILING_7_2» c 2
     ∷ tile «TILING_7_3» c 1
     ∷ tile «TILING_7_3» c 2
-    ∷ ask (inside three (negℤ (entry «TEST_7» c 3))) (tile «TILING_7_4_1» c 0) (tile «TILING_7_4_2» c 0)
+    ∷ ask (inside faces125 (negℤ (entry «TEST_7» c 3))) (tile «TILING_7_4_1» c 0) (tile «TILING_7_4_2» c 0)
     ∷ [])
     sub
     nothing

@@ -12,9 +12,9 @@ use Rattle.families.specs.Tables.{«TEST_3», «TEST_4»}
 use Rattle.families.specs.Plans.{plan3, plan4, plans, planOf}
 use Rattle.choice.specs.Choice.{choiceOf, refusalOf}
 use Rattle.reader.specs.Reader.{cubeAt}
-use Rattle.list.specs.Lists.{isEven, choiceAt, firstFrom, resultOf, bytesOf, rowsOf, answersOf}
+use Rattle.list.specs.Lists.{lengthsAgree, choiceAt, firstFrom, resultOf, bytesOf, rowsOf, answersOf}
 use Rattle.list.specs.Tries.{tries, ListTries}
 
 pub tries-hold : ListTries
-unfolding tries isEven choiceAt firstFrom resultOf bytesOf rowsOf answersOf cubeAt choiceOf refusalOf run settled askInTurn planOf plans plan3 plan4 «TEST_3» «TEST_4» configurations hasCentre faceOf faceBy rule faceCorner faceCorners insideOf insideBy joined lookAt seenAs noteOf pickBy pickWith lastMatch diagonals edgeBy readBy crossBy moveOf moves cornerOf valueAt corners allFinite ofBits neg add sub mul div lt eq le isNan ofInt
+unfolding tries lengthsAgree choiceAt firstFrom resultOf bytesOf rowsOf answersOf cubeAt choiceOf refusalOf run settled askInTurn planOf plans plan3 plan4 «TEST_3» «TEST_4» configurations hasCentre faceOf faceBy rule faceCorner faceCorners insideOf insideBy joined lookAt seenAs noteOf pickBy pickWith lastMatch diagonals edgeBy readBy crossBy moveOf moves cornerOf valueAt corners allFinite ofBits neg add sub mul div lt eq le isNan ofInt
 tries-hold = record { outcomes = refl; answers = refl }

@@ -12,7 +12,7 @@ use lib.Ieee.{Float}
 use lib.Ieee.Fits.{and-r}
 use borrow.Author.Tests.{not-true, not-false, le-leb, lt-leb}
 use Rattle.put.specs.Placed.{placed}
-use Rattle.list.specs.Lists.{cubes, isEven, Result, done, refusedAt, firstFrom, resultOf, rowsOf, answersBy, answersOf}
+use Rattle.list.specs.Lists.{cubes, lengthsAgree, Result, done, refusedAt, firstFrom, resultOf, rowsOf, answersBy, answersOf}
 use Rattle.list.specs.declared.Outcome.{Outcome}
 use Rattle.list.specs.declared.Outcome.the-variants.{Done, Refused}
 use Rattle.list.specs.Results.{result}
@@ -21,12 +21,12 @@ use Rattle.list.proofs.Controls.{tries-hold}
 
 module _ (xs : List Float) (ns : List ℤ) where
   -- the tests of refusal 6, as the code makes them
-  abbrev even : Bool
-  even = eqb (length xs % 8) 0 && eqb (length ns % 2) 0 && eqb (cubes xs) (length ns / 2)
+  abbrev agreed : Bool
+  agreed = eqb (length xs % 8) 0 && eqb (length ns % 2) 0 && eqb (cubes xs) (length ns / 2)
 
-  pub enough : not even ≡ false → 2 * cubes xs ≤ length ns
+  pub enough : not agreed ≡ false → 2 * cubes xs ≤ length ns
   enough e =
-      let t = and-r (eqb (length xs % 8) 0 && eqb (length ns % 2) 0) (eqb (cubes xs) (length ns / 2)) (subst T (sym (not-false even e)) tt) in
+      let t = and-r (eqb (length xs % 8) 0 && eqb (length ns % 2) 0) (eqb (cubes xs) (length ns / 2)) (subst T (sym (not-false agreed e)) tt) in
       let same = eqb→eq (cubes xs) (length ns / 2) t in
       omega arith
 
@@ -41,28 +41,28 @@ module _ (xs : List Float) (ns : List ℤ) where
         (e, (f ∙ ap (λ (r : Result). answersBy r (rowsOf xs ns (cubes xs)) ys) e, tries-hold))
 
     -- by the two tests
-    tested : (b d : Bool) → isEven xs ns ≡ b → leb (4 * cubes xs) (length ys) ≡ d
+    tested : (b d : Bool) → lengthsAgree xs ns ≡ b → leb (4 * cubes xs) (length ys) ≡ d
         → cond b (cond d (firstFrom xs ns (cubes xs) 0) (refusedAt 7 0)) (refusedAt 6 0) ≡ resultOf xs ns (length ys)
     unfolding resultOf
     tested b d e f = rw (sym e, sym f)
 
-    pub not-even : not even ≡ true → Promised (refusedAt 6 0) ys
-    unfolding isEven
-    not-even e =
+    pub not-agreed : not agreed ≡ true → Promised (refusedAt 6 0) ys
+    unfolding lengthsAgree
+    not-agreed e =
         promised (refusedAt 6 0) ys
-        (tested false (leb (4 * cubes xs) (length ys)) (not-true (isEven xs ns) e) refl)
+        (tested false (leb (4 * cubes xs) (length ys)) (not-true (lengthsAgree xs ns) e) refl)
         refl
 
-    module _ (passed : not even ≡ false) where
+    module _ (passed : not agreed ≡ false) where
       pub no-room : length ys < 4 * cubes xs → Promised (refusedAt 7 0) ys
-      unfolding isEven
+      unfolding lengthsAgree
       no-room h =
-          promised (refusedAt 7 0) ys (tested true false (not-false (isEven xs ns) passed) (lt-leb (4 * cubes xs) (length ys) h)) refl
+          promised (refusedAt 7 0) ys (tested true false (not-false (lengthsAgree xs ns) passed) (lt-leb (4 * cubes xs) (length ys) h)) refl
 
       module _ (room : 4 * cubes xs ≤ length ys) (o : Outcome) (e : result o ≡ firstFrom xs ns (cubes xs) 0) where
         first : firstFrom xs ns (cubes xs) 0 ≡ resultOf xs ns (length ys)
-        unfolding isEven
-        first = tested true true (not-false (isEven xs ns) passed) (le-leb (4 * cubes xs) (length ys) room)
+        unfolding lengthsAgree
+        first = tested true true (not-false (lengthsAgree xs ns) passed) (le-leb (4 * cubes xs) (length ys) room)
 
         pub none-refused : o ≡ Done → firstFrom xs ns (cubes xs) 0 ≡ done
         none-refused f = sym e ∙ ap result f

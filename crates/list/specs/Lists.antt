@@ -16,8 +16,8 @@ abbrev pub cubes : List Float → ℕ
 cubes xs = length xs / 8
 
 -- 8 values and 2 numbers a cube, and of both the same cubes
-unfoldable pub isEven : List Float → List ℤ → Bool
-isEven xs ns = eqb (length xs % 8) 0 && eqb (length ns % 2) 0 && eqb (cubes xs) (length ns / 2)
+unfoldable pub lengthsAgree : List Float → List ℤ → Bool
+lengthsAgree xs ns = eqb (length xs % 8) 0 && eqb (length ns % 2) 0 && eqb (cubes xs) (length ns / 2)
 
 -- the choice for cube i
 unfoldable pub choiceAt : List Float → List ℤ → ℕ → Chosen
@@ -35,7 +35,7 @@ firstFrom xs ns (suc k) i = let n = refusalOf (choiceAt xs ns i) in cond (eqb n 
 
 -- refusal 6, then 7, where there is room for fewer than 4 bytes a cube, then the cubes from the first
 unfoldable pub resultOf : List Float → List ℤ → ℕ → Result
-resultOf xs ns room = cond (isEven xs ns) (cond (leb (4 * cubes xs) room) (firstFrom xs ns (cubes xs) 0) (refusedAt 7 0)) (refusedAt 6 0)
+resultOf xs ns room = cond (lengthsAgree xs ns) (cond (leb (4 * cubes xs) room) (firstFrom xs ns (cubes xs) 0) (refusedAt 7 0)) (refusedAt 6 0)
 
 -- the four bytes of a choice; a list with a refused one writes none
 unfoldable pub bytesOf : Chosen → List ℕ

@@ -143,8 +143,8 @@ pub fn choose_list(corners: &[f32], numbers: &[i8], answers: &mut [u8]) -> Outco
     ensures tries { λ _. ⌜ ListTries ⌝ }
 {
     let n = corners.len() / 8;
-    let even = (corners.len() % 8 == 0) & (numbers.len() % 2 == 0) & (n == numbers.len() / 2);
-    if !even {
+    let agree = (corners.len() % 8 == 0) & (numbers.len() % 2 == 0) & (n == numbers.len() / 2);
+    if !agree {
         return Outcome::Refused(6, 0);
     }
     if answers.len() < 4 * n {

@@ -1,8 +1,7 @@
 -- The answers of the C interface as numbers, from what the routines' own promises say. Definitions only.
 use Prim.Native.Nat.{ℕ}
-use mathlib.Core.Bool.{false}
-use lib.IntN.{pos}
-use lib.Ieee.{Float, fin}
+use lib.Ieee.{Float}
+use Rattle.binary32.specs.Numbers.{plusZero}
 use Rattle.cube.specs.Bits.{bitOf}
 use Rattle.face.specs.Face as Face
 use Rattle.edge.specs.Edge.{Told, rising, beyond, crossed, blank}
@@ -28,22 +27,19 @@ unfoldable pub faceNumbers : Face.Said → Mc33Face
 faceNumbers (Face.answer b) = record { refusal = 0; answer = bitOf b }
 faceNumbers (Face.refused n) = record { refusal = n; answer = 0 }
 
-abbrev nought : Float
-nought = fin false 0 (pos 0)
-
 abbrev pub readAs : ℕ → Float → Float → Mc33Edge
 readAs kind t p = record { refusal = 0; kind = kind; t = t; product = p }
 
 -- 1 rising, 2 beyond, 3 crossed, 4 blank
 unfoldable pub readingNumbers : Told Float → Mc33Edge
-readingNumbers rising = readAs 1 nought nought
-readingNumbers (beyond t) = readAs 2 t nought
+readingNumbers rising = readAs 1 plusZero plusZero
+readingNumbers (beyond t) = readAs 2 t plusZero
 readingNumbers (crossed t p) = readAs 3 t p
-readingNumbers blank = readAs 4 nought nought
+readingNumbers blank = readAs 4 plusZero plusZero
 
 unfoldable pub edgeNumbers : Edge.Said → Mc33Edge
 edgeNumbers (Edge.reading r) = readingNumbers r
-edgeNumbers (Edge.refused n) = record { refusal = n; kind = 0; t = nought; product = nought }
+edgeNumbers (Edge.refused n) = record { refusal = n; kind = 0; t = plusZero; product = plusZero }
 
 -- the refusal and its place, 0 and 0 where the list is done
 unfoldable pub outcomeNumbers : Result → Mc33Outcome

@@ -1,7 +1,7 @@
 // A list of corners handed out cube by cube: document 01, 'Places and their forms', the reader that
-// holds the lent corner list and its place. A place counts cubes. No routine changes a `Reader`: `next`
+// holds the lent corner list and its place. A place counts cubes. No routine changes a `Reader`: `here`
 // answers for its place, and `moved` makes one at another place.
-// Public: `step_at`, `new`, `next`, `moved`, `read_at`.
+// Public: `new`, `here`, `moved`, `read_at`.
 ghost use mathlib.Core.Path.{_≡_};
 ghost use Rattle.reader.specs.Reader.{stepAt};
 use cube::Cube;
@@ -19,8 +19,8 @@ pub enum Step {
     End,
 }
 
-// The work: the cube at a place of a list.
-pub fn step_at(corners: &[f32], at: usize) -> Step
+// What stands at a place of a list: `here` hands its list and place to this.
+fn step_at(corners: &[f32], at: usize) -> Step
     ensures { λ r. ⌜ r ≡ stepAt (now (corners .entry)) at ⌝ }
 {
     let n = corners.len() / 8;
@@ -49,7 +49,7 @@ pub fn new<'a>(corners: &'a [f32]) -> Reader<'a>
     Reader { corners, at: 0 }
 }
 
-pub fn next<'a>(r: Reader<'a>) -> Step
+pub fn here<'a>(r: Reader<'a>) -> Step
     ensures { λ s. ⌜ s ≡ stepAt (now (r .entry .corners)) (r .entry .at) ⌝ }
 {
     step_at(r.corners, r.at)
@@ -68,5 +68,5 @@ pub fn moved<'a>(r: Reader<'a>, at: usize) -> Reader<'a>
 pub fn read_at(corners: &[f32], at: usize) -> Step
     ensures { λ s. ⌜ s ≡ stepAt (now (corners .entry)) at ⌝ }
 {
-    next(moved(new(corners), at))
+    here(moved(new(corners), at))
 }

@@ -10,7 +10,7 @@ use Rattle.cube.specs.declared.Cube.{Cube}
 use Rattle.cube.specs.Corners.{corners, valueAt, cornerOf, cube}
 use Rattle.edge.specs.Edge.{moves, moveOf}
 use Rattle.edge.specs.Moves.{movesOf}
-use Rattle.thirteen.specs.Thirteen.{bothWithin, falseOnly, case13By, case13Of}
+use Rattle.thirteen.specs.Thirteen.{bothWithin, answerAt, case13By, case13Of}
 
 -- 1, 2, -1 and -2
 abbrev p1 : ℕ
@@ -92,5 +92,5 @@ tests =
     ∷ []
 
 tests-hold : map (λ t. case13Of (t .q)) tests ≡ map (λ t. t .says) tests
-unfolding tests case13Of case13By falseOnly bothWithin movesOf moveOf moves cornerOf valueAt corners rootOf rootUnits wholeRoot rootWithin ofBits neg add sub mul div lt
+unfolding tests case13Of case13By answerAt bothWithin movesOf moveOf moves cornerOf valueAt corners rootOf rootUnits wholeRoot rootWithin ofBits neg add sub mul div lt
 tests-hold = refl

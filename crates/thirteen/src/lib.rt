@@ -1,7 +1,7 @@
 // The case-13 test: document 01, 'Case-13 test'. An inner routine for the choice, which has tested its
 // cube.
 ghost use mathlib.Core.Path.{_≡_};
-ghost use Rattle.thirteen.specs.Thirteen.{within, bothWithin, falseOnly, case13Of};
+ghost use Rattle.thirteen.specs.Thirteen.{within, bothWithin, answerAt, case13Of};
 use cube::Cube;
 use cube::EdgeNo;
 use edge::Moves;
@@ -25,8 +25,8 @@ fn both_within(m: Moves, t: f32) -> bool
 }
 
 // False only if both t and what is found at both lie strictly within 0 and 1.
-fn false_only(m: Moves, t1: f32, t2: f32) -> bool
-    ensures { λ r. ⌜ r ≡ falseOnly m t1 t2 ⌝ }
+fn answer_at(m: Moves, t1: f32, t2: f32) -> bool
+    ensures { λ r. ⌜ r ≡ answerAt m t1 t2 ⌝ }
 {
     if is_within(t1) & is_within(t2) {
         return !(both_within(m, t1) & both_within(m, t2));
@@ -44,5 +44,5 @@ pub fn interior_test_case13(q: Cube) -> bool
     let b = edge::b_of(m);
     let c = m.u1 * m.u3 - m.u2 * m.u4;
     let root = root::root(b * b - 4.0 * a * c);
-    false_only(m, (-b + root) / (a + a), (-b - root) / (a + a))
+    answer_at(m, (-b + root) / (a + a), (-b - root) / (a + a))
 }

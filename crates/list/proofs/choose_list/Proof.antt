@@ -1,12 +1,12 @@
 -- `list::choose_list` meets its contract: its tests, then the first pass, then the second. Assumes nothing.
 use native.Mathlib.Omega.{arith}
-use Rattle.list.proofs.Outcomes.{not-even, no-room, enough, none-refused, all-done, one-refused}
+use Rattle.list.proofs.Outcomes.{not-agreed, no-room, enough, none-refused, all-done, one-refused}
 use borrow.Author.Needs.{needs}
 use Rattle.list.proofs.choose_list.Statement.{statement}
 use Rattle.list.proofs.choose_list.Tie as tie
 
 returns : tie.Need-returns
-returns c = not-even _ _ _ (c .if1 .taken)
+returns c = not-agreed _ _ _ (c .if1 .taken)
 
 mul-if2 : tie.Need-mul-if2
 mul-if2 c = search needs
@@ -29,10 +29,10 @@ put-rows-requires : tie.Need-put-rows-requires
 put-rows-requires c κs =
     let tests = c .before .before .before .before in
     let s = tests .before .before .before .before .args in
-    let even = tests .before .if1 .left in
-    let twice = enough (s .corners .now) (s .numbers .now) even in (
+    let agreed = tests .before .if1 .left in
+    let twice = enough (s .corners .now) (s .numbers .now) agreed in (
       (omega arith, (omega arith, omega arith)),
-      none-refused (s .corners .now) (s .numbers .now) (s .answers .now) even (omega arith) _ (c .before .before .before .first-refused .ensures) (c .before .enum-told .given .1),
+      none-refused (s .corners .now) (s .numbers .now) (s .answers .now) agreed (omega arith) _ (c .before .before .before .first-refused .ensures) (c .before .enum-told .given .1),
     )
 
 enum-known-why : tie.Need-enum-known-why

@@ -1,4 +1,4 @@
--- `reader::read_at` meets its contract: a walk of its MIR through `new`, `moved` and `next`, of which only the contracts are known. Assumes nothing.
+-- `reader::read_at` meets its contract: a walk of its MIR through `new`, `moved` and `here`, of which only the contracts are known. Assumes nothing.
 -- A machine value that a call returns is stored and passed on as it is. In a local of a body MIR erases the lifetime of the struct's type, so the value is shown to have the type at `erased`: what the struct owns does not say the lifetime's name.
 use mathlib.Core.Path.{_≡_, refl, ap, _∙_}
 use Prim.Native.Nat.{ℕ, _<_, _^_}
@@ -53,10 +53,10 @@ use Rattle.reader.proofs.moved as moved
 use Rattle.reader.proofs.moved.Symbol as moved-def
 use Rattle.reader.proofs.moved.Symbol.{name as #reader·moved}
 use Rattle.reader.proofs.moved.Met as moved-thm
-use Rattle.reader.proofs.next as next
-use Rattle.reader.proofs.next.Symbol as next-def
-use Rattle.reader.proofs.next.Symbol.{name as #reader·next}
-use Rattle.reader.proofs.next.Met as next-thm
+use Rattle.reader.proofs.here as here
+use Rattle.reader.proofs.here.Symbol as here-def
+use Rattle.reader.proofs.here.Symbol.{name as #reader·here}
+use Rattle.reader.proofs.here.Met as here-thm
 use Rattle.reader.proofs.read_at.Key.{name as #reader·read-at}
 use Rattle.reader.proofs.read_at as read
 use Rattle.reader.proofs.read_at.Statement as stated
@@ -78,7 +78,7 @@ module _ {M : Type 1} (𝓤 : URA M) (H : Heap 𝓤) (A : Atoms 𝓤) (mem : Mem
   Moved = tripleOf 𝓤 H A moved.signature (moved.spec 𝓤 H A mem run)
 
   abbrev Next : Contract 𝓤
-  Next = tripleOf 𝓤 H A next.signature (next.spec 𝓤 H A mem run)
+  Next = tripleOf 𝓤 H A here.signature (here.spec 𝓤 H A mem run)
 
 module _ {M : Type 1} (𝓤 : URA M) (H : Heap 𝓤) (A : Atoms 𝓤) (W : Given 𝓤 H A) (mem : Memory → SProp 𝓤) (run : Routine → Fun 𝓤) (κ : Lft) (q : Share) (s : RefT (List Float)) (n : ℕ) (ok : n < 2 ^ 64) where
   -- the machine value that s has
@@ -127,15 +127,15 @@ module _ {M : Type 1} (𝓤 : URA M) (H : Heap 𝓤) (A : Atoms 𝓤) (W : Given
   moved-said : (r r′ : Reader) → ent 𝓤 (ensured 𝓤 H A moved.ended (moved.clauses 𝓤 H A mem run) (κ, tt) (r, (n, tt)) tt r′) (fact 𝓤 ((r′ .corners ≡ r .corners) × (r′ .at ≡ n)))
   moved-said r r′ = exE 𝓤 _ (λ ws. snd∗ 𝓤 (sem 𝓤 H A (lasts moved.ended (κ, tt) (r, (n, tt)) ws)) (fact 𝓤 ((r′ .corners ≡ r .corners) × (r′ .at ≡ n))))
 
-  -- the call of `next`, at the struct r with the machine value u
-  abbrev to-next : Reader → Val → Next 𝓤 H A mem run .Ghost
-  to-next r u = (((κ, tt), (q, tt), tt, (r, tt), (u ∷ [], tt)), tt)
+  -- the call of `here`, at the struct r with the machine value u
+  abbrev to-here : Reader → Val → Next 𝓤 H A mem run .Ghost
+  to-here r u = (((κ, tt), (q, tt), tt, (r, tt), (u ∷ [], tt)), tt)
 
-  goes-next : (r : Reader) (u : Val) → ent 𝓤 (⋆ 𝓤 H A (‵ (B (κ, tt) .own r (u ∷ [])) ∷ (‵ (flft κ q) ⊛ ‵ ftrue) ∷ [])) (Next 𝓤 H A mem run .pre (to-next r u))
-  goes-next r u = qed W (‵ (B (κ, tt) .own r (u ∷ [])) ∷ (‵ (flft κ q) ⊛ ‵ ftrue) ∷ []) ∵ nothing ! $ move ! (1 ∷ 0 ∷ []) $ fjoin ! $ move ! (1 ∷ 0 ∷ []) $ join ! $ frame ! $ done !
+  goes-here : (r : Reader) (u : Val) → ent 𝓤 (⋆ 𝓤 H A (‵ (B (κ, tt) .own r (u ∷ [])) ∷ (‵ (flft κ q) ⊛ ‵ ftrue) ∷ [])) (Next 𝓤 H A mem run .pre (to-here r u))
+  goes-here r u = qed W (‵ (B (κ, tt) .own r (u ∷ [])) ∷ (‵ (flft κ q) ⊛ ‵ ftrue) ∷ []) ∵ nothing ! $ move ! (1 ∷ 0 ∷ []) $ fjoin ! $ move ! (1 ∷ 0 ∷ []) $ join ! $ frame ! $ done !
 
-  next-said : (r : Reader) (t : Step) → ent 𝓤 (ensured 𝓤 H A next.ended (next.clauses 𝓤 H A mem run) (κ, tt) (r, tt) tt t) (fact 𝓤 (t ≡ stepAt (now (r .corners)) (r .at)))
-  next-said r t = exE 𝓤 _ (λ ws. snd∗ 𝓤 (sem 𝓤 H A (lasts next.ended (κ, tt) (r, tt) ws)) (fact 𝓤 (t ≡ stepAt (now (r .corners)) (r .at))))
+  here-said : (r : Reader) (t : Step) → ent 𝓤 (ensured 𝓤 H A here.ended (here.clauses 𝓤 H A mem run) (κ, tt) (r, tt) tt t) (fact 𝓤 (t ≡ stepAt (now (r .corners)) (r .at)))
+  here-said r t = exE 𝓤 _ (λ ws. snd∗ 𝓤 (sem 𝓤 H A (lasts here.ended (κ, tt) (r, tt) ws)) (fact 𝓤 (t ≡ stepAt (now (r .corners)) (r .at))))
 
   exits : (t : Step) (u : Val) → t ≡ found → ent 𝓤 (⋆ 𝓤 H A (‵ (S.the-row .own t (u ∷ [])) ∷ (‵ (flft κ q) ⊛ ‵ ftrue) ∷ ‵ Own ∷ [])) (Post u)
   exits t u e =
@@ -143,7 +143,7 @@ module _ {M : Type 1} (𝓤 : URA M) (H : Heap 𝓤) (A : Atoms 𝓤) (W : Given
       suffices ! _ (ends-at 𝓤 H A read.ended stayed (read.clauses 𝓤 H A mem run) W (((κ, tt), (q, tt), tt, (s, (n, tt)), at), tt) u t (tt, (tt, tt)) (tt, (tt, tt))) $ says ! e $
       move ! (1 ∷ []) $ frame ! $ nothing ! $ owned ! usize (Is usize) (uint-makes 𝓤 H A W w64) n _ (refl, ok) $ fjoin ! $ move ! (2 ∷ 0 ∷ []) $ fjoin ! $ frame ! $ done !
 
-  module _ (C : Calls 𝓤 H) (Λ : Loops 𝓤 H) (fm : FmC 𝓤 H (W .laws) C) (known-new : Triple 𝓤 (C #reader·new) (New 𝓤 H A mem run)) (known-moved : Triple 𝓤 (C #reader·moved) (Moved 𝓤 H A mem run)) (known-next : Triple 𝓤 (C #reader·next) (Next 𝓤 H A mem run)) where
+  module _ (C : Calls 𝓤 H) (Λ : Loops 𝓤 H) (fm : FmC 𝓤 H (W .laws) C) (known-new : Triple 𝓤 (C #reader·new) (New 𝓤 H A mem run)) (known-moved : Triple 𝓤 (C #reader·moved) (Moved 𝓤 H A mem run)) (known-here : Triple 𝓤 (C #reader·here) (Next 𝓤 H A mem run)) where
     walk : Is (ShrSlice (named 0) κ f32) s (v ∷ []) → ent 𝓤 (onEntry 𝓤 H A read.signature (κ, tt) (q, tt) (s, (n, tt)) at) (WpFn 𝓤 H C Λ code.function (v ∷ vint w64 n ∷ []) Post)
     walk p =
         qed W (raw (onEntry 𝓤 H A read.signature (κ, tt) (q, tt) (s, (n, tt)) at) ∷ []) ∵ enter ! C Λ code.function (v ∷ vint w64 n ∷ []) _ $
@@ -163,10 +163,10 @@ module _ {M : Type 1} (𝓤 : URA M) (H : Heap 𝓤) (A : Atoms 𝓤) (W : Given
         -- [what the struct owns; the token; what s owns; _4; …; room for _3; …; _2; …; _1; …; room for _0; …]
         peeks ! (B (κ, tt)) (Is (B (κ, tt))) (shows 𝓤 H A (B (κ, tt))) r′ (u′ ∷ []) (λ is′.
         land ! (from ! (stop !)) (init ! 5 refl (LL.lawful (T.the-type αᵉ) (T′.the-laws αᵉ) 𝓤 H A W .typed r′ _ is′ .0)) $
-        use2 W (raw (Next 𝓤 H A mem run .pre (to-next r′ u′))) (goes-next r′ u′) $
-        calls-at ! fm (Next 𝓤 H A mem run) known-next (to-next r′ u′) (and-then ! (load ! (from ! (stop !)) (look ! 4 refl)) (no-more !)) (λ u″.
-        use1 W (later (some (λ (t : Step). ((‵ (flft κ q) ⊛ ‵ ftrue) ⊛ ‵ (S.the-row .own t (u″ ∷ []))) ⊛ raw (ensured 𝓤 H A next.ended (next.clauses 𝓤 H A mem run) (κ, tt) (r′, tt) tt t)))) (id⊢ 𝓤 _) $ await ! tt $ pick ! (λ t.
-        split ! $ move ! (1 ∷ []) $ use1 W (raw (fact 𝓤 (t ≡ stepAt (now (r′ .corners)) (r′ .at)))) (next-said r′ t) $ heard ! (t ≡ stepAt (now (r′ .corners)) (r′ .at)) (λ e″. split ! $ move ! (1 ∷ []) $
+        use2 W (raw (Next 𝓤 H A mem run .pre (to-here r′ u′))) (goes-here r′ u′) $
+        calls-at ! fm (Next 𝓤 H A mem run) known-here (to-here r′ u′) (and-then ! (load ! (from ! (stop !)) (look ! 4 refl)) (no-more !)) (λ u″.
+        use1 W (later (some (λ (t : Step). ((‵ (flft κ q) ⊛ ‵ ftrue) ⊛ ‵ (S.the-row .own t (u″ ∷ []))) ⊛ raw (ensured 𝓤 H A here.ended (here.clauses 𝓤 H A mem run) (κ, tt) (r′, tt) tt t)))) (id⊢ 𝓤 _) $ await ! tt $ pick ! (λ t.
+        split ! $ move ! (1 ∷ []) $ use1 W (raw (fact 𝓤 (t ≡ stepAt (now (r′ .corners)) (r′ .at)))) (here-said r′ t) $ heard ! (t ≡ stepAt (now (r′ .corners)) (r′ .at)) (λ e″. split ! $ move ! (1 ∷ []) $
         -- [the result; the token; what s owns; _4; …; _3; …; _2; …; _1; …; room for _0; …]
         peeks ! S.the-row (Is S.the-row) (shows 𝓤 H A S.the-row) t (u″ ∷ []) (λ is″.
         land ! (from ! (stop !)) (init ! 11 refl (EL.lawful S.the-type S′.the-laws 𝓤 H A W tt .typed t _ is″ .0)) $
@@ -175,16 +175,16 @@ module _ {M : Type 1} (𝓤 : URA M) (H : Heap 𝓤) (A : Atoms 𝓤) (W : Given
         by ! (exits t u″ (e″ ∙ (ap (λ (x : RefT (List Float)). stepAt (now x) (r′ .at)) (e′ .0 ∙ e .0) ∙ ap (stepAt (now s)) (e′ .1)))))))))))))))))))))
 
 module _ {M : Type 1} (𝓤 : URA M) (H : Heap 𝓤) (A : Atoms 𝓤) (W : Given 𝓤 H A) (mem : Memory → SProp 𝓤) (run : Routine → Fun 𝓤) where
-  read-at-walks : (C : Calls 𝓤 H) (Λ : Loops 𝓤 H) → FmC 𝓤 H (W .laws) C → Triple 𝓤 (C #reader·new) (New 𝓤 H A mem run) → Triple 𝓤 (C #reader·moved) (Moved 𝓤 H A mem run) → Triple 𝓤 (C #reader·next) (Next 𝓤 H A mem run)
+  read-at-walks : (C : Calls 𝓤 H) (Λ : Loops 𝓤 H) → FmC 𝓤 H (W .laws) C → Triple 𝓤 (C #reader·new) (New 𝓤 H A mem run) → Triple 𝓤 (C #reader·moved) (Moved 𝓤 H A mem run) → Triple 𝓤 (C #reader·here) (Next 𝓤 H A mem run)
       → Walks 𝓤 H A read.ended stayed (WpFn 𝓤 H C Λ code.function) (read.clauses 𝓤 H A mem run)
-  read-at-walks C Λ fm known-new known-moved known-next = walked 𝓤 H A read.ended stayed (read.clauses 𝓤 H A mem run) (WpFn 𝓤 H C Λ code.function) (λ κs. (slice-vals, (uint-vals w64, tt))) (λ κs. (shr-slice-tells (named 0) (κs .0) f32, (uint-tells w64, tt)))
-      (λ κs qs bounds a g are. via 𝓤 _ (fst∗ 𝓤 _ (emp 𝓤)) (walk 𝓤 H A W mem run (κs .0) (qs .0) (a .0) (a .1 .0) (are .1 .0 .1) C Λ fm known-new known-moved known-next (are .0)))
+  read-at-walks C Λ fm known-new known-moved known-here = walked 𝓤 H A read.ended stayed (read.clauses 𝓤 H A mem run) (WpFn 𝓤 H C Λ code.function) (λ κs. (slice-vals, (uint-vals w64, tt))) (λ κs. (shr-slice-tells (named 0) (κs .0) f32, (uint-tells w64, tt)))
+      (λ κs qs bounds a g are. via 𝓤 _ (fst∗ 𝓤 _ (emp 𝓤)) (walk 𝓤 H A W mem run (κs .0) (qs .0) (a .0) (a .1 .0) (are .1 .0 .1) C Λ fm known-new known-moved known-here (are .0)))
 
 read-at-meets : {M : Type 1} (𝓤 : URA M) (H : Heap 𝓤) (A : Atoms 𝓤) (W : Given 𝓤 H A) (mem : Memory → SProp 𝓤) (run : Routine → Fun 𝓤) (𝓣 : Tables 𝓤 H)
-    → Triple 𝓤 (𝓣 .C #reader·new) (New 𝓤 H A mem run) → Triple 𝓤 (𝓣 .C #reader·moved) (Moved 𝓤 H A mem run) → Triple 𝓤 (𝓣 .C #reader·next) (Next 𝓤 H A mem run)
+    → Triple 𝓤 (𝓣 .C #reader·new) (New 𝓤 H A mem run) → Triple 𝓤 (𝓣 .C #reader·moved) (Moved 𝓤 H A mem run) → Triple 𝓤 (𝓣 .C #reader·here) (Next 𝓤 H A mem run)
     → Meets 𝓤 H A read.signature (WpFn 𝓤 H (𝓣 .C) (𝓣 .Λ) code.function) (read.spec 𝓤 H A mem run)
-read-at-meets 𝓤 H A W mem run 𝓣 known-new known-moved known-next = walk-meets 𝓤 H A read.ended stayed W (goes-none-slice 𝓤 H A W 1 (0 ∷ []) tt (plain (λ _. f32)) yes, (goes-none 𝓤 H A W 1 (λ _. usize) yes (λ κs x f. refl), tt)) (read.clauses 𝓤 H A mem run) (WpFn 𝓤 H (𝓣 .C) (𝓣 .Λ) code.function) (WpFn-mono 𝓤 H (W .laws) 𝓣 code.function)
-    (read-at-walks 𝓤 H A W mem run (𝓣 .C) (𝓣 .Λ) (fmOf 𝓤 H (W .laws) 𝓣) known-new known-moved known-next)
+read-at-meets 𝓤 H A W mem run 𝓣 known-new known-moved known-here = walk-meets 𝓤 H A read.ended stayed W (goes-none-slice 𝓤 H A W 1 (0 ∷ []) tt (plain (λ _. f32)) yes, (goes-none 𝓤 H A W 1 (λ _. usize) yes (λ κs x f. refl), tt)) (read.clauses 𝓤 H A mem run) (WpFn 𝓤 H (𝓣 .C) (𝓣 .Λ) code.function) (WpFn-mono 𝓤 H (W .laws) 𝓣 code.function)
+    (read-at-walks 𝓤 H A W mem run (𝓣 .C) (𝓣 .Λ) (fmOf 𝓤 H (W .laws) 𝓣) known-new known-moved known-here)
 
 pub read-at-spec : {M : Type 1} → stated.statement M
 unfolding code.routine tablesOf
@@ -194,4 +194,4 @@ read-at-spec 𝓤 H 𝓜 𝓖 𝓡 =
     (read-at-meets 𝓤 H (𝓖 .A) (givenOf 𝓤 H 𝓜 𝓖) (𝓜 .mem) (𝓡 .run) (tablesOf 𝓤 H 𝓜 (tables 𝓤 H 𝓜 𝓡 code.env))
     (cited 𝓤 H (New 𝓤 H (𝓖 .A) (𝓜 .mem) (𝓡 .run)) 𝓜 𝓡 code.env #reader·new new-def.routine code.calls-reader·new (new-thm.met 𝓤 H 𝓜 𝓖 𝓡))
     (cited 𝓤 H (Moved 𝓤 H (𝓖 .A) (𝓜 .mem) (𝓡 .run)) 𝓜 𝓡 code.env #reader·moved moved-def.routine code.calls-reader·moved (moved-thm.met 𝓤 H 𝓜 𝓖 𝓡))
-    (cited 𝓤 H (Next 𝓤 H (𝓖 .A) (𝓜 .mem) (𝓡 .run)) 𝓜 𝓡 code.env #reader·next next-def.routine code.calls-reader·next (next-thm.met 𝓤 H 𝓜 𝓖 𝓡)))
+    (cited 𝓤 H (Next 𝓤 H (𝓖 .A) (𝓜 .mem) (𝓡 .run)) 𝓜 𝓡 code.env #reader·here here-def.routine code.calls-reader·here (here-thm.met 𝓤 H 𝓜 𝓖 𝓡)))

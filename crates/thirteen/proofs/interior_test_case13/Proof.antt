@@ -19,14 +19,14 @@ b-of-requires c κs = search needs
 root-requires : tie.Need-root-requires
 root-requires c κs = search needs
 
-false-only-requires : tie.Need-false-only-requires
-false-only-requires c κs = search needs
+answer-at-requires : tie.Need-answer-at-requires
+answer-at-requires c κs = search needs
 
 returns : tie.Need-returns
 returns c =
     let c4 = c .before .before .before .before in
     let c2 = c4 .before .before in
-    by-edge-0 _ _ _ _ _ _ _ (c2 .before .before .values .ensures) (c2 .moves-of .ensures) (c4 .before .a-of .ensures) (c4 .b-of .ensures) (c .before .root .ensures .0) (c .false-only .ensures)
+    by-edge-0 _ _ _ _ _ _ _ (c2 .before .before .values .ensures) (c2 .moves-of .ensures) (c4 .before .a-of .ensures) (c4 .b-of .ensures) (c .before .root .ensures .0) (c .answer-at .ensures)
 
 pub interior-test-case13-spec : {M : Type 1} → statement M
 interior-test-case13-spec =
@@ -37,5 +37,5 @@ interior-test-case13-spec =
     a-of-requires
     b-of-requires
     root-requires
-    false-only-requires
+    answer-at-requires
     returns)

@@ -1,8 +1,8 @@
--- `thirteen::false_only` is `falseOnly`.
+-- `thirteen::answer_at` is `answerAt`.
 use borrow.Author.Needs.{needs}
 use Rattle.thirteen.proofs.Ways.{by-inside, by-outside}
-use Rattle.thirteen.proofs.false_only.Statement.{statement}
-use Rattle.thirteen.proofs.false_only.Tie as tie
+use Rattle.thirteen.proofs.answer_at.Statement.{statement}
+use Rattle.thirteen.proofs.answer_at.Tie as tie
 
 is-within-requires : tie.Need-is-within-requires
 is-within-requires c κs = search needs
@@ -24,8 +24,8 @@ returns c =
 returns-2 : tie.Need-returns-2
 returns-2 c = by-outside _ _ _ _ _ (c .before .before .is-within .ensures) (c .before .is-within2 .ensures) (c .if1 .left)
 
-pub false-only-spec : {M : Type 1} → statement M
-false-only-spec =
+pub answer-at-spec : {M : Type 1} → statement M
+answer-at-spec =
     tie.close
     (tie.spec
     is-within-requires

@@ -1,4 +1,4 @@
--- `reader::next` meets its contract: a walk of its MIR takes the struct apart and calls `step_at`, of which only the contract is known. Assumes nothing.
+-- `reader::here` meets its contract: a walk of its MIR takes the struct apart and calls `step_at`, of which only the contract is known. Assumes nothing.
 -- The struct is Copy: what it owns is had twice, one copy is kept whole for the exit, and of the other what corners owns goes to the callee, beside the lifetime's token, which comes back.
 use mathlib.Core.Path.{_≡_, refl}
 use Prim.Native.Nat.{_<_, _^_}
@@ -53,16 +53,16 @@ use Rattle.reader.proofs.step_at as step
 use Rattle.reader.proofs.step_at.Symbol as step-def
 use Rattle.reader.proofs.step_at.Symbol.{name as #reader·step-at}
 use Rattle.reader.proofs.step_at.Met as step-thm
-use Rattle.reader.proofs.next.Key.{name as #reader·next}
-use Rattle.reader.proofs.next as next
-use Rattle.reader.proofs.next.Statement as stated
-use Rattle.reader.proofs.next.Code as code
+use Rattle.reader.proofs.here.Key.{name as #reader·here}
+use Rattle.reader.proofs.here as here
+use Rattle.reader.proofs.here.Statement as stated
+use Rattle.reader.proofs.here.Code as code
 
 -- the struct's type, over the signature's lifetimes
 abbrev B : Lfts 1 → RattleType
 B κs = T.the-row (namedLft 1 0 tt κs)
 
-abbrev stayed : Stays (next.ended .signature .params) (next.ended .kept)
+abbrev stayed : Stays (here.ended .signature .params) (here.ended .kept)
 stayed = (stay-none B yes, tt)
 
 module _ {M : Type 1} (𝓤 : URA M) (H : Heap 𝓤) (A : Atoms 𝓤) (mem : Memory → SProp 𝓤) (run : Routine → Fun 𝓤) where
@@ -82,7 +82,7 @@ module _ {M : Type 1} (𝓤 : URA M) (H : Heap 𝓤) (A : Atoms 𝓤) (W : Given
   found = stepAt (now (d .corners)) (d .at)
 
   abbrev Post : Val → SProp 𝓤
-  Post = walkOf 𝓤 H A next.ended stayed (next.clauses 𝓤 H A mem run) .post (((κ, tt), (q, tt), tt, (d, tt), (mach ∷ [], tt)), tt)
+  Post = walkOf 𝓤 H A here.ended stayed (here.clauses 𝓤 H A mem run) .post (((κ, tt), (q, tt), tt, (d, tt), (mach ∷ [], tt)), tt)
 
   abbrev Own : Fml
   Own = B (κ, tt) .own d (mach ∷ [])
@@ -108,7 +108,7 @@ module _ {M : Type 1} (𝓤 : URA M) (H : Heap 𝓤) (A : Atoms 𝓤) (W : Given
   asked = qed W ((‵ (flft κ q) ⊛ ‵ ftrue) ∷ ‵ (owns (ShrSlice (named 0) κ f32 ∷ usize ∷ []) (d .corners, (d .at, tt)) passed) ∷ []) ∵ join ! $ frame ! $ done !
 
   -- what the struct owns gives what the callee asks, and is kept
-  apart : d .at < 2 ^ 64 → ent 𝓤 (onEntry 𝓤 H A next.signature (κ, tt) (q, tt) (d, tt) (mach ∷ [], tt)) (sep 𝓤 (StepAt 𝓤 H A mem run .pre to) (sem 𝓤 H A Own))
+  apart : d .at < 2 ^ 64 → ent 𝓤 (onEntry 𝓤 H A here.signature (κ, tt) (q, tt) (d, tt) (mach ∷ [], tt)) (sep 𝓤 (StepAt 𝓤 H A mem run .pre to) (sem 𝓤 H A Own))
   apart fits =
       qed W ((‵ (flft κ q) ⊛ ‵ ftrue) ∷ ‵ (owns (B (κ, tt) ∷ []) (d, tt) (mach ∷ [], tt)) ∷ []) ∵
       move ! (1 ∷ []) $ fsplit ! $ move ! (1 ∷ []) $ drop ! $ use1 W (‵ Own ⊛ ‵ Own) (LL.copy D (T′.the-copy (namedLft 1 0 tt (κ, tt))) 𝓤 H A W .twice d (mach ∷ [])) $ split ! $
@@ -124,13 +124,13 @@ module _ {M : Type 1} (𝓤 : URA M) (H : Heap 𝓤) (A : Atoms 𝓤) (W : Given
   exits : (r : Step) (u : Val) → r ≡ found → ent 𝓤 (⋆ 𝓤 H A (‵ (S.the-row .own r (u ∷ [])) ∷ (‵ (flft κ q) ⊛ ‵ ftrue) ∷ ‵ Own ∷ [])) (Post u)
   exits r u e =
       qed W (‵ (S.the-row .own r (u ∷ [])) ∷ (‵ (flft κ q) ⊛ ‵ ftrue) ∷ ‵ Own ∷ []) ∵
-      suffices ! _ (ends-at 𝓤 H A next.ended stayed (next.clauses 𝓤 H A mem run) W (((κ, tt), (q, tt), tt, (d, tt), (mach ∷ [], tt)), tt) u r (tt, tt) (tt, tt)) $ says ! e $
+      suffices ! _ (ends-at 𝓤 H A here.ended stayed (here.clauses 𝓤 H A mem run) W (((κ, tt), (q, tt), tt, (d, tt), (mach ∷ [], tt)), tt) u r (tt, tt) (tt, tt)) $ says ! e $
       move ! (1 ∷ []) $ frame ! $ nothing ! $ move ! (2 ∷ 0 ∷ []) $ fjoin ! $ frame ! $ done !
 
   module _ (C : Calls 𝓤 H) (Λ : Loops 𝓤 H) (fm : FmC 𝓤 H (W .laws) C) (known : Triple 𝓤 (C #reader·step-at) (StepAt 𝓤 H A mem run)) where
-    walk : Holds (hasTy (T′.mir (named 0)) mach) × WT mach → ent 𝓤 (onEntry 𝓤 H A next.signature (κ, tt) (q, tt) (d, tt) (mach ∷ [], tt)) (WpFn 𝓤 H C Λ code.function (mach ∷ []) Post)
+    walk : Holds (hasTy (T′.mir (named 0)) mach) × WT mach → ent 𝓤 (onEntry 𝓤 H A here.signature (κ, tt) (q, tt) (d, tt) (mach ∷ [], tt)) (WpFn 𝓤 H C Λ code.function (mach ∷ []) Post)
     walk wt =
-        qed W (raw (onEntry 𝓤 H A next.signature (κ, tt) (q, tt) (d, tt) (mach ∷ [], tt)) ∷ []) ∵ enter ! C Λ code.function (mach ∷ []) _ $
+        qed W (raw (onEntry 𝓤 H A here.signature (κ, tt) (q, tt) (d, tt) (mach ∷ [], tt)) ∷ []) ∵ enter ! C Λ code.function (mach ∷ []) _ $
         alloc1 ! (λ l₀. alloc1 ! (λ l₁. alloc1 ! (λ l₂. alloc1 ! (λ l₃. alloc0 ! $ params1 ! $ pass1 ! (init ! 4 refl wt) $ pass0 ! $
         assigns ! (of-opd ! (load ! (from ! (fld ! refl (stop !))) (look-in ! 4 (sub ! 0 refl (whole !))))) (from ! (stop !)) (init ! 2 refl (tt, wt .1 .0)) $
         assigns ! (of-opd ! (load ! (from ! (fld ! refl (stop !))) (look-in ! 4 (sub ! 1 refl (whole !))))) (from ! (stop !)) (init ! 0 refl (tt, wt .1 .1 .0)) $
@@ -145,21 +145,21 @@ module _ {M : Type 1} (𝓤 : URA M) (H : Heap 𝓤) (A : Atoms 𝓤) (W : Given
         move ! (9 ∷ 10 ∷ []) $ free1 ! $ move ! (7 ∷ 8 ∷ []) $ free1 ! $ move ! (5 ∷ 6 ∷ []) $ free1 ! $ move ! (3 ∷ 4 ∷ []) $ free1 ! $ free0 ! $ by ! (exits r u e)))))))))
 
 module _ {M : Type 1} (𝓤 : URA M) (H : Heap 𝓤) (A : Atoms 𝓤) (W : Given 𝓤 H A) (mem : Memory → SProp 𝓤) (run : Routine → Fun 𝓤) where
-  next-walks : (C : Calls 𝓤 H) (Λ : Loops 𝓤 H) → FmC 𝓤 H (W .laws) C → Triple 𝓤 (C #reader·step-at) (StepAt 𝓤 H A mem run)
-      → Walks 𝓤 H A next.ended stayed (WpFn 𝓤 H C Λ code.function) (next.clauses 𝓤 H A mem run)
-  next-walks C Λ fm known = walked 𝓤 H A next.ended stayed (next.clauses 𝓤 H A mem run) (WpFn 𝓤 H C Λ code.function) (λ κs. (LL.vals (T.the-type (namedLft 1 0 tt κs)) (T′.the-laws (namedLft 1 0 tt κs)), tt)) (λ κs. (LL.tells (T.the-type (namedLft 1 0 tt κs)) (T′.the-laws (namedLft 1 0 tt κs)), tt))
+  here-walks : (C : Calls 𝓤 H) (Λ : Loops 𝓤 H) → FmC 𝓤 H (W .laws) C → Triple 𝓤 (C #reader·step-at) (StepAt 𝓤 H A mem run)
+      → Walks 𝓤 H A here.ended stayed (WpFn 𝓤 H C Λ code.function) (here.clauses 𝓤 H A mem run)
+  here-walks C Λ fm known = walked 𝓤 H A here.ended stayed (here.clauses 𝓤 H A mem run) (WpFn 𝓤 H C Λ code.function) (λ κs. (LL.vals (T.the-type (namedLft 1 0 tt κs)) (T′.the-laws (namedLft 1 0 tt κs)), tt)) (λ κs. (LL.tells (T.the-type (namedLft 1 0 tt κs)) (T′.the-laws (namedLft 1 0 tt κs)), tt))
       (λ κs qs bounds a g are. via 𝓤 _ (fst∗ 𝓤 _ (emp 𝓤)) (walk 𝓤 H A W mem run (κs .0) (qs .0) (a .0) C Λ fm known (LL.lawful (T.the-type (namedLft 1 0 tt κs)) (T′.the-laws (namedLft 1 0 tt κs)) 𝓤 H A W .typed (a .0) _ (are .0) .0)))
 
-next-meets : {M : Type 1} (𝓤 : URA M) (H : Heap 𝓤) (A : Atoms 𝓤) (W : Given 𝓤 H A) (mem : Memory → SProp 𝓤) (run : Routine → Fun 𝓤) (𝓣 : Tables 𝓤 H)
+here-meets : {M : Type 1} (𝓤 : URA M) (H : Heap 𝓤) (A : Atoms 𝓤) (W : Given 𝓤 H A) (mem : Memory → SProp 𝓤) (run : Routine → Fun 𝓤) (𝓣 : Tables 𝓤 H)
     → Triple 𝓤 (𝓣 .C #reader·step-at) (StepAt 𝓤 H A mem run)
-    → Meets 𝓤 H A next.signature (WpFn 𝓤 H (𝓣 .C) (𝓣 .Λ) code.function) (next.spec 𝓤 H A mem run)
-next-meets 𝓤 H A W mem run 𝓣 known-step = walk-meets 𝓤 H A next.ended stayed W (goes-none 𝓤 H A W 1 B yes (λ κs x f. refl), tt) (next.clauses 𝓤 H A mem run) (WpFn 𝓤 H (𝓣 .C) (𝓣 .Λ) code.function) (WpFn-mono 𝓤 H (W .laws) 𝓣 code.function)
-    (next-walks 𝓤 H A W mem run (𝓣 .C) (𝓣 .Λ) (fmOf 𝓤 H (W .laws) 𝓣) known-step)
+    → Meets 𝓤 H A here.signature (WpFn 𝓤 H (𝓣 .C) (𝓣 .Λ) code.function) (here.spec 𝓤 H A mem run)
+here-meets 𝓤 H A W mem run 𝓣 known-step = walk-meets 𝓤 H A here.ended stayed W (goes-none 𝓤 H A W 1 B yes (λ κs x f. refl), tt) (here.clauses 𝓤 H A mem run) (WpFn 𝓤 H (𝓣 .C) (𝓣 .Λ) code.function) (WpFn-mono 𝓤 H (W .laws) 𝓣 code.function)
+    (here-walks 𝓤 H A W mem run (𝓣 .C) (𝓣 .Λ) (fmOf 𝓤 H (W .laws) 𝓣) known-step)
 
-pub next-spec : {M : Type 1} → stated.statement M
+pub here-spec : {M : Type 1} → stated.statement M
 unfolding code.routine tablesOf
-next-spec 𝓤 H 𝓜 𝓖 𝓡 =
-    entered 𝓤 H (tripleOf 𝓤 H (𝓖 .A) next.signature (next.spec 𝓤 H (𝓖 .A) (𝓜 .mem) (𝓡 .run)))
-    (tables 𝓤 H 𝓜 𝓡 code.env .C) (tables 𝓤 H 𝓜 𝓡 code.env .Λ) #reader·next code.function (code.unfolded 𝓤 H 𝓜 𝓡)
-    (next-meets 𝓤 H (𝓖 .A) (givenOf 𝓤 H 𝓜 𝓖) (𝓜 .mem) (𝓡 .run) (tablesOf 𝓤 H 𝓜 (tables 𝓤 H 𝓜 𝓡 code.env))
+here-spec 𝓤 H 𝓜 𝓖 𝓡 =
+    entered 𝓤 H (tripleOf 𝓤 H (𝓖 .A) here.signature (here.spec 𝓤 H (𝓖 .A) (𝓜 .mem) (𝓡 .run)))
+    (tables 𝓤 H 𝓜 𝓡 code.env .C) (tables 𝓤 H 𝓜 𝓡 code.env .Λ) #reader·here code.function (code.unfolded 𝓤 H 𝓜 𝓡)
+    (here-meets 𝓤 H (𝓖 .A) (givenOf 𝓤 H 𝓜 𝓖) (𝓜 .mem) (𝓡 .run) (tablesOf 𝓤 H 𝓜 (tables 𝓤 H 𝓜 𝓡 code.env))
     (cited 𝓤 H (StepAt 𝓤 H (𝓖 .A) (𝓜 .mem) (𝓡 .run)) 𝓜 𝓡 code.env #reader·step-at step-def.routine code.calls-reader·step-at (step-thm.met 𝓤 H 𝓜 𝓖 𝓡)))
