@@ -1,16 +1,17 @@
 // The proved root against the machine's own f32 square root.
 //
-//   (no word)   compares the two at every one of the 2^32 patterns, then measures their speed
-//   speed       measures their speed alone
+//   (no word)   compares it, over bits and over floats, at every one of the 2^32 patterns, then measures its speed
+//   speed       measures its speed alone
 //   sample      prints PATTERN ROOT, eight hex digits each, a line for each pattern of a fixed
 //               choice, made by the machine's root alone: the input of crates/root_sample
+#[allow(dead_code)]
+#[path = "../rust/src/library.rs"]
+mod library;
+
+use library::{root, root_bits};
 use std::collections::BTreeSet;
 use std::hint::black_box;
 use std::time::Instant;
-
-extern "C" {
-    fn mc33_root_bits(bits: u32) -> u32;
-}
 
 const NAN: u32 = 0x7fc0_0000;
 
@@ -20,16 +21,19 @@ fn machine(bits: u32) -> u32 {
     f32::from_bits(bits).sqrt().to_bits()
 }
 
-// What the definition asks: the machine's bits, and one pattern for all its NaNs. They are told by
-// their bits: the compiler may take one float NaN for another.
-fn expected(bits: u32) -> u32 {
-    let root = machine(bits);
-    if root & 0x7fff_ffff > 0x7f80_0000 { NAN } else { root }
+// One pattern for all NaNs. They are told by their bits: the compiler may take one float NaN for another.
+fn one_nan(bits: u32) -> u32 {
+    if bits & 0x7fff_ffff > 0x7f80_0000 { NAN } else { bits }
 }
 
-fn ours(bits: u32) -> u32 {
-    // The function takes any number and touches no memory.
-    unsafe { mc33_root_bits(bits) }
+// What the definition asks: the machine's bits, and one pattern for all its NaNs.
+fn expected(bits: u32) -> u32 {
+    one_nan(machine(bits))
+}
+
+// The root over floats, whose NaN may have any pattern.
+fn root_of_float(bits: u32) -> u32 {
+    one_nan(root(f32::from_bits(bits)).to_bits())
 }
 
 // Patterns that differ, and NaN results, from `from` up to `to`.
@@ -37,14 +41,14 @@ fn compare(from: u64, to: u64) -> (u64, u64) {
     let (mut differ, mut nans) = (0, 0);
     for pattern in from..to {
         let bits = pattern as u32;
-        let root = ours(bits);
-        if root != expected(bits) {
+        let (ours, of_float, expected) = (root_bits(bits), root_of_float(bits), expected(bits));
+        if [ours, of_float] != [expected; 2] {
             differ += 1;
             if differ <= 5 {
-                println!("{bits:08x}: {root:08x}, the machine has {:08x}", expected(bits));
+                println!("{bits:08x}: {ours:08x} and {of_float:08x}, the machine has {expected:08x}");
             }
         }
-        if root == NAN {
+        if ours == NAN {
             nans += 1;
         }
     }
@@ -99,7 +103,7 @@ fn speed() -> bool {
     let patterns = normals(4096);
     let (mut mine, mut theirs) = (Vec::new(), Vec::new());
     for _ in 0..101 {
-        mine.push(nanoseconds(&patterns, ours));
+        mine.push(nanoseconds(&patterns, root_bits));
         theirs.push(nanoseconds(&patterns, machine));
     }
     let (mine, theirs) = (median(mine), median(theirs));

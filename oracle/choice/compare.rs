@@ -1,7 +1,7 @@
 // The comparison.
 use crate::cubes::{Random, Regime, REGIMES};
 use crate::families::{CONFIGURATIONS, FAMILIES, GIVEN, SUITED};
-use crate::library::{choose, edge, face, root, Mc33Choice, Mc33Cube, Mc33Face};
+use crate::library::{choose, edge, face, root_bits, Mc33Choice, Mc33Face};
 use crate::list::compare_lists;
 use crate::met::{face_answer, faces, met, print_met, read_alone, wanted, wanted_by_itself, FAMILY, THINGS};
 use crate::rust::{Both, Cube};
@@ -57,7 +57,7 @@ impl Comparer {
 }
 
 fn compare_choice(cube: &Cube, theirs: &Mc33Choice) {
-    let ours = choose(cube.given, Mc33Cube(cube.corners));
+    let ours = choose(cube.given, cube.corners);
     if ours != *theirs {
         let [case, configuration] = cube.given;
         let what = format!("case {case} configuration {configuration} corners {}", hex(&cube.corners));
@@ -214,7 +214,7 @@ fn compare_roots(patterns: u64, seed: u64) {
     let (before, mut random) = (differences(), Random(seed));
     for _ in 0..patterns {
         let bits = (random.next() >> 32) as u32;
-        let (ours, theirs) = (root(bits), machine_root(bits));
+        let (ours, theirs) = (root_bits(bits), machine_root(bits));
         if ours != theirs {
             differ(format!("root of {bits:08x}"), format!("{ours:08x}"), format!("{theirs:08x}"));
         }

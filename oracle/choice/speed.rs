@@ -1,7 +1,7 @@
 // The speed of both on the same cubes.
 use crate::cubes::{free, suited, Random};
 use crate::families::{AMBIGUOUS, CONFIGURATIONS, GIVEN, STARTS, SUITED};
-use crate::library::{choose, list, Mc33Cube};
+use crate::library::{choose, list};
 use crate::rust::{handle, handle_list, Bare, Cube};
 use std::hint::black_box;
 use std::time::Instant;
@@ -53,7 +53,7 @@ fn courses() -> Vec<Course> {
 fn time_ours(cubes: &[Cube]) -> f64 {
     let start = Instant::now();
     for cube in cubes {
-        black_box(choose(cube.given, Mc33Cube(cube.corners)));
+        black_box(choose(cube.given, cube.corners));
     }
     start.elapsed().as_nanos() as f64 / cubes.len() as f64
 }

@@ -20,12 +20,8 @@
 mod library;
 mod refusal;
 
+pub use library::Cube;
 pub use refusal::{ListRefused, Refusal};
-
-/// The values at corners 0 to 7.
-#[derive(Clone, Copy, Debug, PartialEq)]
-#[repr(C)]
-pub struct Cube(pub [f32; 8]);
 
 /// A tiling of the Marching Cubes 33 tables.
 #[derive(Clone, Copy, Debug, PartialEq, Eq, Hash)]

@@ -1,6 +1,11 @@
 //! The static library's functions; include/mc33.h has the same in C.
-use crate::Cube;
 
+/// The values at corners 0 to 7.
+#[derive(Clone, Copy, Debug, PartialEq)]
+#[repr(C)]
+pub struct Cube(pub [f32; 8]);
+
+#[derive(Clone, Copy, Debug, Default, PartialEq)]
 #[repr(C)]
 pub struct Mc33Choice {
     pub refusal: u8,
@@ -11,12 +16,14 @@ pub struct Mc33Choice {
     pub unsettled: u8,
 }
 
+#[derive(Clone, Copy, Debug, PartialEq)]
 #[repr(C)]
 pub struct Mc33Face {
     pub refusal: u8,
     pub answer: u8,
 }
 
+#[derive(Clone, Copy, Debug, PartialEq)]
 #[repr(C)]
 pub struct Mc33Edge {
     pub refusal: u8,
@@ -25,6 +32,7 @@ pub struct Mc33Edge {
     pub product: f32,
 }
 
+#[derive(Clone, Copy, Debug, PartialEq)]
 #[repr(C)]
 pub struct Mc33Outcome {
     pub refusal: u64,
@@ -49,6 +57,7 @@ extern "C" {
 
 // SAFETY, for all but the list: the functions take any numbers and touch no memory of the caller's.
 
+#[inline]
 pub fn choose(case: i8, configuration: i8, cube: Cube) -> Mc33Choice {
     unsafe { mc33_choose(case, configuration, cube) }
 }
