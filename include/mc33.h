@@ -3,8 +3,9 @@
  * Link with libmc33_c.a (x86-64 Linux). Nothing here allocates, keeps anything between calls or touches memory
  * other than what it is lent, so any number of threads may call at once.
  *
- * Every function takes any numbers. What it cannot answer it refuses, with one of the numbers below: `refusal` is 0
- * where there is an answer, and where there is none the other fields are 0, but for the place in a list. */
+ * Every function takes any numbers of its types; C cuts a larger int to int8_t without a word. What a function cannot
+ * answer it refuses, with one of the numbers below: `refusal` is 0 where there is an answer, and where there is none
+ * the other fields are 0, but for the place in a list. So look at `refusal` first. */
 #ifndef MC33_H
 #define MC33_H
 

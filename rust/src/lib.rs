@@ -47,6 +47,15 @@ const NAMES: [&str; 38] = [
 
 impl Tiling {
     /// The name of the tiling's table, as `"10_1_1_"`; empty for a code that is none.
+    ///
+    /// ```
+    /// use mc33::{choose, Choice, Cube};
+    /// // Cases with one tiling a row, whose table has the case's name.
+    /// for case in [1, 2, 5, 8, 9, 11, 14] {
+    ///     let Ok(Choice::Tiled(tiling)) = choose(case, 0, Cube([1.0; 8])) else { panic!() };
+    ///     assert_eq!(tiling.name(), case.to_string());
+    /// }
+    /// ```
     pub fn name(&self) -> &'static str {
         NAMES
             .get(usize::from(self.code).wrapping_sub(1))
