@@ -61,6 +61,7 @@ int main(void)
     mc33_cube tied = {1, -1, 1, -1, -1, -1, -1, -1};
     mc33_cube apart = {1, -2, 1, -2, -1, -1, -1, -1};
     mc33_cube level = {3, -1, -1, -1, -1, -1, 3, -1};
+    mc33_cube steep = {9, -1, -1, -1, -1, -1, 9, -1};
     float corners[] = {
         1, -1, 1, -1, -1, -1, -1, -1,
         3, -1, -1, -1, -1, -1, 3, -1,
@@ -76,6 +77,7 @@ int main(void)
     print_face(tied, -5);
     print_face(tied, 0);
     print_edge(level, 0);
+    print_edge(steep, 8);
     print_edge(tied, 0);
     print_edge(tied, 12);
     printf("root of 6.25: %g\n", mc33_root(6.25f));

@@ -60,6 +60,7 @@ fn main() {
     let tied = Cube([1.0, -1.0, 1.0, -1.0, -1.0, -1.0, -1.0, -1.0]);
     let apart = Cube([1.0, -2.0, 1.0, -2.0, -1.0, -1.0, -1.0, -1.0]);
     let level = Cube([3.0, -1.0, -1.0, -1.0, -1.0, -1.0, 3.0, -1.0]);
+    let steep = Cube([9.0, -1.0, -1.0, -1.0, -1.0, -1.0, 9.0, -1.0]);
     let mut cubes = [tied.0, level.0, [1.0, 2.0, 1.0, 2.0, 1.0, 4.0, 1.0, 4.0]];
     let numbers = [3, 0, 4, 0, 13, 0];
 
@@ -71,6 +72,7 @@ fn main() {
     print_face(tied, -5);
     print_face(tied, 0);
     print_edge(level, 0);
+    print_edge(steep, 8);
     print_edge(tied, 0);
     print_edge(tied, 12);
     println!("root of 6.25: {}", root(6.25));

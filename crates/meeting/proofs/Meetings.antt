@@ -17,8 +17,9 @@ use Rattle.face.specs.Columns.{placeOf, squareOf}
 use Rattle.face.specs.Face.{faceCorners, faceOf, isFace, isPositive}
 use Rattle.face.specs.Laws.{alternate}
 use Rattle.face.proofs.Places.{face-place, face-size}
+use Rattle.meeting.specs.declared.Compared.{Compared}
 use Rattle.meeting.specs.declared.Compared.the-variants.{Equal, Apart, Refused}
-use Rattle.meeting.specs.Meeting.{sameValues, meetAt, meet, alternateAt, joined, equal, apart, refused, comparedOf, AgreeBySign}
+use Rattle.meeting.specs.Meeting.{sameValues, meetAt, meet, alternateAt, joined, FacesAgree, said, comparedOf, AgreeBySign}
 use Rattle.meeting.proofs.Agreement.{faces-agree}
 
 module _ (k : Cube) (n : ℕ) (l : Cube) (p : ℕ) where
@@ -68,17 +69,21 @@ not-or true y = refl
 not-or false y = refl
 
 module _ (k : Cube) (n : ℤ) (l : Cube) (p : ℤ) (i j : ℕ) (ei : i ≡ placeOf n) (ej : j ≡ placeOf p) where
+  -- what `compare_faces` promises of its result
+  abbrev Promised : Compared → Type 0
+  Promised r = (said r ≡ comparedOf k n l p) × (AgreeBySign n p r × FacesAgree)
+
   faces : isFace n && isFace p ≡ not (eqb i 0 || eqb j 0)
   faces = (λ o. ((face-place n ∙ ap (λ (z : ℕ). not (eqb z 0)) (sym ei)) o) && ((face-place p ∙ ap (λ (z : ℕ). not (eqb z 0)) (sym ej)) o)) ∙ not-or (eqb i 0) (eqb j 0)
 
-  pub no-face : eqb i 0 || eqb j 0 ≡ true → (refused 4 ≡ comparedOf k n l p) × AgreeBySign n p (Refused NoFace)
+  pub no-face : eqb i 0 || eqb j 0 ≡ true → Promised (Refused NoFace)
   unfolding comparedOf
-  no-face h = (rw (faces, h), λ b e. (λ h. cc, λ h. cc))
+  no-face h = (rw (faces, h), (λ b e. (λ h. cc, λ h. cc), faces-agree))
 
   module _ (h : eqb i 0 || eqb j 0 ≡ false) (x y : Bool) (ex : x ≡ allFinite k) (ey : y ≡ allFinite l) where
-    pub not-finite : not (x && y) ≡ true → (refused 3 ≡ comparedOf k n l p) × AgreeBySign n p (Refused NotFinite)
+    pub not-finite : not (x && y) ≡ true → Promised (Refused NotFinite)
     unfolding comparedOf
-    not-finite g = (rw (faces, h, ← ex, ← ey, not-true (x && y) g), λ b e. (λ h. cc, λ h. cc))
+    not-finite g = (rw (faces, h, ← ex, ← ey, not-true (x && y) g), (λ b e. (λ h. cc, λ h. cc), faces-agree))
 
     module _ (g : not (x && y) ≡ false) (u v : Bool) (eu : u ≡ meet k (placeOf n) l (placeOf p) && alternateAt k n) (ev : v ≡ meet l (placeOf p) k (placeOf n) && alternateAt l p) where
       both : isFace n && isFace p ≡ true
@@ -93,12 +98,12 @@ module _ (k : Cube) (n : ℤ) (l : Cube) (p : ℤ) (i j : ℕ) (ei : i ≡ place
           let t : T (isFace n && isFace p) = subst T (sym both) tt in
           rw (eu, ev, face-size n (and-l (isFace n) (isFace p) t), face-size p (and-r (isFace n) (isFace p) t))
 
-      pub apart-told : u || v ≡ false → (apart ≡ comparedOf k n l p) × AgreeBySign n p Apart
+      pub apart-told : u || v ≡ false → Promised Apart
       unfolding comparedOf
-      apart-told w = (rw (both, finite, sym as-joined ∙ w), λ b e. (λ h. cc, λ h. cc))
+      apart-told w = (rw (both, finite, sym as-joined ∙ w), (λ b e. (λ h. cc, λ h. cc), faces-agree))
 
-      pub equal-told : u || v ≡ true → (r s : Bool) → r ≡ faceOf k n → s ≡ faceOf l p → (equal (Bool·beq r s) ≡ comparedOf k n l p) × AgreeBySign n p (Equal (Bool·beq r s))
+      pub equal-told : u || v ≡ true → (r s : Bool) → r ≡ faceOf k n → s ≡ faceOf l p → Promised (Equal (Bool·beq r s))
       unfolding comparedOf
       equal-told w r s er es =
           let t : T (joined k n l p || joined l p k n) = subst T (sym (sym as-joined ∙ w)) tt in
-          (rw (both, finite, sym as-joined ∙ w, er, es), by-comparison k n l p r s t er es)
+          (rw (both, finite, sym as-joined ∙ w, er, es), (by-comparison k n l p r s t er es, faces-agree))

@@ -3,7 +3,7 @@ ghost use mathlib.Core.Path.{_≡_};
 ghost use mathlib.Core.Bool.{_&&_};
 ghost use Rattle.face.specs.Columns.{placeOf};
 ghost use Rattle.face.specs.Laws.{inRange, upAndDown, alternate};
-ghost use Rattle.meeting.specs.Meeting.{meet, alternateAt, said, comparedOf, AgreeBySign};
+ghost use Rattle.meeting.specs.Meeting.{meet, alternateAt, said, comparedOf, AgreeBySign, FacesAgree};
 use cube::Cube;
 use cube::Face;
 use cube::Refusal;
@@ -63,6 +63,7 @@ fn joins(k: Cube, n: Face, l: Cube, p: Face) -> bool
 pub fn compare_faces(k: Cube, n: Face, l: Cube, p: Face) -> Compared
     ensures result { λ r. ⌜ said r ≡ comparedOf k (n .0) l (p .0) ⌝ }
     ensures by_sign { λ r. ⌜ AgreeBySign (n .0) (p .0) r ⌝ }
+    ensures term_3 { λ _. ⌜ FacesAgree ⌝ }
 {
     if (place(n) == 0) | (place(p) == 0) {
         return Compared::Refused(Refusal::NoFace);
