@@ -148,7 +148,7 @@ pub fn read(m: Moves) -> Reading
 }
 
 // The reading of an edge by the corners' values.
-pub fn reading_of(values: &[f32; 8], edge: EdgeNo) -> Reading
+fn reading_of(values: &[f32; 8], edge: EdgeNo) -> Reading
     ensures { λ r. ⌜ told r ≡ edgeBy f32 quotients (valueAt (now (values .entry))) (edge .0) ⌝ }
 {
     read(moves_of(values, edge))
