@@ -3,6 +3,7 @@
 //   compare N SEED   compares the two on about N cubes, and counts what the cubes met; readings of
 //                    edges, face tests, roots, refusals and lists as well
 //   speed            measures the two on the same cubes
+//   once COURSE      runs each once on 4,096 cubes of a row of that table, as `case 4`, for oracle/count.sh
 //   sample SEED      prints an input of the text program whose cubes meet everything
 //   input BYTES SEED prints about so many bytes of input for the text program, of mixed families
 //   text             the text program in plain Rust, over the Rust's handle_cube
@@ -33,11 +34,12 @@ fn main() {
     let good = match (words.first().map(String::as_str), number(1), number(2)) {
         (Some("compare"), Some(cubes), Some(seed)) => compare::compare(cubes, seed),
         (Some("speed"), None, None) => speed::speed(),
+        (Some("once"), None, None) => speed::once(words.get(1).map_or("", String::as_str)),
         (Some("sample"), Some(seed), None) => sample::sample(seed),
         (Some("input"), Some(bytes), Some(seed)) => text::input(bytes, seed),
         (Some("text"), None, None) => text::text(),
         _ => {
-            eprintln!("compare N SEED | speed | sample SEED | input BYTES SEED | text");
+            eprintln!("compare N SEED | speed | once COURSE | sample SEED | input BYTES SEED | text");
             false
         }
     };

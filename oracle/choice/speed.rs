@@ -122,6 +122,17 @@ fn print_race([ours, theirs]: [f64; 2]) -> bool {
     times <= 1.0
 }
 
+// Ours and theirs once, on the first cubes of a course: for a tool that counts what `time_ours` and `time_theirs` execute.
+pub fn once(name: &str) -> bool {
+    let found = courses().into_iter().find(|course| course.name == name);
+    if let Some(course) = &found {
+        let cubes = &course.cubes[..4096];
+        time_ours(cubes);
+        time_theirs(cubes, &mut Bare::new());
+    }
+    found.is_some()
+}
+
 pub fn speed() -> bool {
     let (mut rust, mut fast) = (Bare::new(), true);
     println!("{:<24}{:>25}{:>25}", "ns a cube", "choice", "list");
