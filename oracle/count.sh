@@ -4,15 +4,12 @@
 #
 #   oracle/count.sh [SOURCE]     SOURCE as for oracle/choice.sh
 set -euo pipefail
-here="$PWD"
-cd "$(dirname "$0")/.."
-case "${1-}" in
-    "") source=$PWD/../shared/docs/src ;;
-    /*) source=$1 ;;
-    *) source=$here/$1 ;;
-esac
-mkdir -p target/oracle
-oracle/choice.sh "$source" once 'case 0' 2> target/oracle/count.log || { cat target/oracle/count.log; exit 1; }
+oracle="$(cd "$(dirname "$0")" && pwd)"
+command -v valgrind > /dev/null || { echo "valgrind is not there" >&2; exit 1; }
+log="$oracle/../target/count.log"
+mkdir -p "$oracle/../target"
+"$oracle/choice.sh" "$@" once 'case 0' > "$log" 2>&1 || { cat "$log"; exit 1; }
+cd "$oracle/.."
 
 # counted FUNCTION COURSE: what callgrind prints of the events: instructions, branches and those mispredicted, and so
 # for jumps that are computed.
@@ -24,6 +21,8 @@ counted() {
 printf '%-24s%18s%18s\n' 'a cube' instructions mispredicted
 printf '%-24s%9s%9s%9s%9s\n' '' ours "Rust's" ours "Rust's"
 for course in 'mixed families' 'case 1' 'case 4' 'case 13'; do
-    echo "$(counted time_ours "$course") $(counted time_theirs "$course")" | awk -v course="$course" '
+    ours=$(counted time_ours "$course")
+    theirs=$(counted time_theirs "$course")
+    echo "$ours $theirs" | awk -v course="$course" '
         { printf "%-24s%9.0f%9.0f%9.1f%9.1f\n", course, $1 / 4096, $6 / 4096, ($3 + $5) / 4096, ($8 + $10) / 4096 }'
 done

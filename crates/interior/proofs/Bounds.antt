@@ -13,7 +13,8 @@ use Rattle.edge.specs.Edge.{Told, rising, beyond, crossed, blank, Quotients, ed
 use Rattle.notes.specs.Notes.{total}
 use Rattle.interior.specs.Pick as Pick
 use Rattle.interior.specs.Pick.{Picked, edge, pickBy}
-use Rattle.interior.specs.Interior.{Look, seen, refused, joined, noteOf, seenAs, lookBy, lookAt, insideBy, insideOf, counted}
+use Rattle.interior.specs.Interior.{Look, seen, refused, joined, noteOf, seenAs, lookAt, insideBy, insideOf, counted}
+use Rattle.interior.specs.Looks.{lookBy}
 
 one-or-none : (b : Bool) → cond b 1 0 ≤ 1
 one-or-none true = lit≤ tt

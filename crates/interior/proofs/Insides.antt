@@ -14,9 +14,10 @@ use Rattle.edge.specs.Edge.{Told, quotients}
 use Rattle.edge.specs.Moves.{movesOf, readOf}
 use Rattle.notes.specs.Notes.{noNotes}
 use Rattle.interior.specs.declared.Diagonals.{Diagonals}
-use Rattle.interior.specs.Pick.{Picked, pickWith, pickBy, edgeIn}
+use Rattle.interior.specs.Pick.{Picked, pickWith, pickBy}
 use Rattle.interior.specs.Diagonals.{diagonalsOf, heldBy}
-use Rattle.interior.specs.Interior.{Look, seen, seenAs, lookBy, lookAt, joined, insideBy, insideOf, counted}
+use Rattle.interior.specs.Interior.{Look, seen, seenAs, lookAt, joined, insideBy, insideOf, counted}
+use Rattle.interior.specs.Looks.{edgeIn, lookBy}
 use Rattle.interior.proofs.Bounds.{counted-look, counted-joined}
 use Rattle.interior.proofs.Picks.{same-picks}
 use Rattle.interior.proofs.Sights.{looked-at, joined-none}

@@ -22,9 +22,10 @@ use Rattle.interior.specs.declared.Found.the-variants.{Seen, Refused}
 use Rattle.interior.specs.declared.Pick.{Pick}
 use Rattle.interior.specs.declared.Pick.the-variants as variants
 use Rattle.interior.specs.declared.Pick.the-variants.{Edge}
-use Rattle.interior.specs.Pick.{Picked, edge, edgeIn, picked}
+use Rattle.interior.specs.Pick.{Picked, edge, picked}
 use Rattle.interior.specs.Pick as Pick
-use Rattle.interior.specs.Interior.{Look, seen, refused, noteOf, seenAs, lookBy, lookAt, joined, counted, looked}
+use Rattle.interior.specs.Interior.{Look, seen, refused, noteOf, seenAs, lookAt, joined, counted, looked}
+use Rattle.interior.specs.Looks.{edgeIn, lookBy}
 
 -- ---- one reading
 byte-of : (b : Bool) → boolByte b ≡ cond b 1 0

@@ -27,11 +27,6 @@ joined (refused n) y = refused n
 joined (seen a m) (refused n) = refused n
 joined (seen a m) (seen b n) = seen (a || b) (added m n)
 
--- what is read where an edge is picked
-unfoldable pub lookBy : Picked → Look → Look
-lookBy (edge n) x = x
-lookBy (Pick.refused n) x = refused n
-
 module _ (K : Numbers) (D : Quotients K) where
   open Numbers K using (N)
   open Quotients D using (Q, nought)

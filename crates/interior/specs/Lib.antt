@@ -1,3 +1,4 @@
 pub mod Diagonals
 pub mod Interior
+pub mod Looks
 pub mod Pick

@@ -58,11 +58,6 @@ module _ (K : Numbers) where
   unfoldable pub pickBy : (ℕ → N) → ℤ → ℕ → Picked
   pickBy corner s n = pickWith (matchesBy corner s) n
 
--- the edge that is picked, and edge 0 where none is
-abbrev pub edgeIn : Picked → ℤ
-edgeIn (edge n) = n
-edgeIn (refused n) = pos 0
-
 -- the picks of the code by document 01's numbers
 abbrev pub picked : Pick → Picked
 picked (Edge e) = edge (e .0)

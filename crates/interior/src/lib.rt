@@ -9,9 +9,10 @@ ghost use Rattle.cube.specs.Corners.{valueAt};
 ghost use Rattle.edge.specs.Edge.{crossed, quotients, valued, told};
 ghost use Rattle.edge.specs.Moves.{movesOf, readOf};
 ghost use Rattle.notes.specs.Notes.{total};
-ghost use Rattle.interior.specs.Pick.{pickWith, edgeIn, picked};
+ghost use Rattle.interior.specs.Pick.{pickWith, picked};
 ghost use Rattle.interior.specs.Diagonals.{diagonalsOf, heldBy, setOf, edgesOf};
-ghost use Rattle.interior.specs.Interior.{seen, noteOf, seenAs, lookBy, joined, counted, insideOf, looked};
+ghost use Rattle.interior.specs.Interior.{seen, noteOf, seenAs, joined, counted, insideOf, looked};
+ghost use Rattle.interior.specs.Looks.{edgeIn, lookBy};
 use cube::Cube;
 use cube::EdgeNo;
 use cube::Refusal;
@@ -141,7 +142,7 @@ fn sight_of(r: Reading) -> Sight
     }
 }
 
-// The edge that is picked, and edge 0 where none is.
+// The edge whose moves are read: where the pick is refused any edge does, since nothing is read by them.
 fn edge_in(p: Pick) -> EdgeNo
     ensures { λ r. ⌜ r .0 ≡ edgeIn (picked p) ⌝ }
 {
