@@ -6,7 +6,10 @@
 //   once COURSE      runs each once on 4,096 cubes of a row of that table, as `case 4`, for oracle/count.sh
 //   sample SEED      prints an input of the text program whose cubes meet everything
 //   input BYTES SEED prints about so many bytes of input for the text program, of mixed families
+//   altered          how many cubes of such an input turn with each alteration of the tables
 //   text             the text program in plain Rust, over the Rust's handle_cube
+#[path = "choice/altered.rs"]
+mod altered;
 #[path = "choice/compare.rs"]
 mod compare;
 #[path = "choice/cubes.rs"]
@@ -37,9 +40,10 @@ fn main() {
         (Some("once"), None, None) => speed::once(words.get(1).map_or("", String::as_str)),
         (Some("sample"), Some(seed), None) => sample::sample(seed),
         (Some("input"), Some(bytes), Some(seed)) => text::input(bytes, seed),
+        (Some("altered"), None, None) => altered::altered(),
         (Some("text"), None, None) => text::text(),
         _ => {
-            eprintln!("compare N SEED | speed | once COURSE | sample SEED | input BYTES SEED | text");
+            eprintln!("compare N SEED | speed | once COURSE | sample SEED | input BYTES SEED | altered | text");
             false
         }
     };

@@ -6,13 +6,14 @@
 #   oracle/choice.sh SOURCE speed
 #   oracle/choice.sh SOURCE once 'case 4'
 #   oracle/choice.sh SOURCE sample 1 > crates/mc33/stdin
+#   oracle/choice.sh SOURCE altered < crates/mc33/stdin
 #   oracle/choice.sh SOURCE input 1000000 1 > INPUT
 #   oracle/choice.sh SOURCE text < crates/mc33/stdin > crates/mc33/stdout
 set -euo pipefail
 here="$PWD"
 cd "$(dirname "$0")/.."
 case "${1-}" in
-    compare | speed | once | sample | input | text | "") source=../shared/docs/src ;;
+    compare | speed | once | sample | altered | input | text | "") source=../shared/docs/src ;;
     /*) source=$1; shift ;;
     *) source=$here/$1; shift ;;
 esac

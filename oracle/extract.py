@@ -4,11 +4,12 @@
     extract.py SOURCE OUT.rs           writes OUT.rs, then checks it
     extract.py --check SOURCE OUT.rs   checks it alone
 
-SOURCE has src/voxel/meshing/. OUT.rs is a part of choice/rust.rs. It holds each function three times: as
-it stands, for Bare, and for Noted and Counted with lines put in between that note what is met on the way;
-such a line ends in MARK. One expression is replaced, LOOKUP in handle_cube by GIVEN. The tilings, add_faces and
-compute_c_vertex are items of choice/rust.rs under the same names, so their calls stand as they are. The
-source's own CASES stands in a module by itself; suited signs are drawn from it.
+SOURCE has src/voxel/meshing/. OUT.rs is a part of choice/rust.rs. It holds each function four times: as
+it stands, for Bare, and for Noted, Counted and Altered with lines put in between that note what is met on the
+way; such a line ends in MARK. One expression is replaced, LOOKUP in handle_cube by GIVEN. The tilings, add_faces
+and compute_c_vertex are items of choice/rust.rs under the same names, so their calls stand as they are; so are,
+for Altered, the tables items of choice/altered.rs. The source's own CASES stands in a module by itself; suited
+signs are drawn from it.
 
 The check cuts the source another way, by lines, and asks that OUT.rs without its noted lines and with
 LOOKUP back in its place is those bytes in FRAME, and that the noted lines are those of NOTES, as often
@@ -49,6 +50,18 @@ impl Noted {{
 
 impl Counted {{
 {noted}}}
+
+mod over_altered_tables {{
+use super::*;
+use crate::altered::{{{names}}};
+
+impl Altered {{
+{noted}
+    pub fn handle(&mut self, cube: Cube) {{
+        self.handle_cube(Some(cube));
+    }}
+}}
+}}
 
 {tables}
 pub mod sets {{
@@ -125,7 +138,7 @@ def framed(functions, tables, cases, note=lambda name, text: text):
     return FRAME.format(
         bare="\n".join(functions.values()),
         noted="\n".join(note(name, text) for name, text in functions.items()),
-        tables="\n".join(tables), cases=cases)
+        names=", ".join(TABLES), tables="\n".join(tables), cases=cases)
 
 
 def cuts(cut, source):
@@ -146,10 +159,10 @@ def check(source, out):
     text = Path(out).read_bytes().decode()
     lines = text.splitlines(keepends=True)
     bare = "".join(line for line in lines if not line.endswith(MARK))
-    if bare.count(GIVEN) != 3 or bare.replace(GIVEN, LOOKUP) != framed(functions, tables, cases):
+    if bare.count(GIVEN) != 4 or bare.replace(GIVEN, LOOKUP) != framed(functions, tables, cases):
         fail("the extract is not verbatim")
     notes = [line[:-len(MARK)] for line in lines if line.endswith(MARK)]
-    wanted = [note for parts in NOTES.values() for _, note, times in parts for _ in range(2 * times)]
+    wanted = [note for parts in NOTES.values() for _, note, times in parts for _ in range(3 * times)]
     if sorted(notes) != sorted(wanted):
         fail("the notes are not those of the list")
     if text.replace(GIVEN, LOOKUP) != framed(functions, tables, cases, noted):
@@ -162,7 +175,7 @@ def report(source, functions, tables, notes):
         print(f"{name} {hashlib.sha256(text.encode()).hexdigest()}", file=sys.stderr)
     size = sum(len(text) for text in functions.values())
     print(f"the extract is verbatim but for the lookup: {len(functions)} functions of {size} bytes, "
-          f"{len(tables)} tables and CASES; {len(notes) // 2} notes in each noted copy", file=sys.stderr)
+          f"{len(tables)} tables and CASES; {len(notes) // 3} notes in each noted copy", file=sys.stderr)
 
 
 def main(words):

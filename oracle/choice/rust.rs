@@ -159,8 +159,9 @@ pub fn handle(rust: &mut Bare, cube: &Cube) {
     rust.handle_cube(Some(*cube));
 }
 
-// The Rust with unsettled counted and the sub-configuration noted, and nothing else.
-pub struct Counted {
+// The Rust with unsettled counted and the sub-configuration noted, and nothing else; Altered reads the tables of
+// altered.rs.
+pub struct Counting<const ALTERED: bool> {
     cube: Cube,
     case: i8,
     config: usize,
@@ -170,9 +171,12 @@ pub struct Counted {
     unsettled: Cell<u8>,
 }
 
-impl Counted {
+pub type Counted = Counting<false>;
+pub type Altered = Counting<true>;
+
+impl<const ALTERED: bool> Counting<ALTERED> {
     pub fn new() -> Self {
-        Counted {
+        Counting {
             cube: BLANK_CUBE,
             case: 0,
             config: 0,
@@ -207,18 +211,36 @@ impl Counted {
 
     fn note_places(&self, _: [f32; 4]) {}
 
-    // Code, row, column, centre and unsettled.
-    pub fn choice(&mut self, cube: Cube) -> [u8; 5] {
+    fn forget(&mut self) {
         self.note = Note::default();
         self.centre = false;
         self.unsettled.set(0);
-        self.handle_cube(Some(cube));
+    }
+
+    fn answer(&self) -> [u8; 5] {
         let Note { code, row, column } = self.note;
         match code {
             0 if self.case == 0 => [0; 5],
             0 => [255, self.config as u8, self.sub_configuration as u8, 0, 0],
             _ => [code, row, column, self.centre as u8, self.unsettled.get()],
         }
+    }
+}
+
+// Code, row, column, centre and unsettled.
+impl Counted {
+    pub fn choice(&mut self, cube: Cube) -> [u8; 5] {
+        self.forget();
+        self.handle_cube(Some(cube));
+        self.answer()
+    }
+}
+
+impl Altered {
+    pub fn choice(&mut self, cube: Cube) -> [u8; 5] {
+        self.forget();
+        self.handle(cube);
+        self.answer()
     }
 }
 

@@ -1,4 +1,5 @@
 // A sample of cubes, as the text program's input.
+use crate::altered::Turns;
 use crate::cubes::{Random, REGIMES};
 use crate::families::{family_of, GIVEN, SUITED};
 use crate::met::{met, wanted, THINGS};
@@ -13,18 +14,21 @@ struct Line {
 // So many lines in all.
 const LINES: usize = 5200;
 
-// Beside what choices have to meet: each code and column of each family, and each case of each regime.
+// Beside what choices have to meet: each code and column of each family, each case of each regime, and each alteration
+// of a table that turns the answer.
 const OF_FAMILY: usize = THINGS;
 const OF_REGIME: usize = OF_FAMILY + 256 * 256 * 64;
-const SAMPLED: usize = OF_REGIME + REGIMES.len() * 15;
+const OF_TURN: usize = OF_REGIME + REGIMES.len() * 15;
 
-fn sampled(rust: &Noted, regime: usize) -> Vec<usize> {
+fn sampled(rust: &Noted, turns: &mut Turns, regime: usize) -> Vec<usize> {
     let choice = rust.choice();
     let mut things = Vec::new();
     met(rust, &choice, |thing| things.push(thing));
     let family_and_code = family_of(rust.cube.given) * 256 + choice.code as usize;
     things.push(OF_FAMILY + family_and_code * 64 + choice.column as usize);
     things.push(OF_REGIME + regime * 15 + rust.case as usize);
+    let answer = [choice.code, choice.row, choice.column, choice.centre, choice.unsettled];
+    turns.met(&rust.cube, answer, rust.sub_configuration, |turn| things.push(OF_TURN + turn));
     things
 }
 
@@ -34,13 +38,13 @@ fn cube(random: &mut Random, regime: usize) -> Cube {
 }
 
 // The cubes that meet something first, of the regimes in turn.
-fn first_meetings(cubes: usize, random: &mut Random, counts: &mut [u32]) -> Vec<Line> {
+fn first_meetings(cubes: usize, random: &mut Random, turns: &mut Turns, counts: &mut [u32]) -> Vec<Line> {
     let (mut rust, mut lines) = (Both::new(), Vec::new());
     for place in 0..cubes {
         let regime = place % REGIMES.len();
         let cube = cube(random, regime);
         rust.choice(&cube);
-        let things = sampled(&rust.noted, regime);
+        let things = sampled(&rust.noted, turns, regime);
         if things.iter().any(|&thing| counts[thing] == 0) {
             things.iter().for_each(|&thing| counts[thing] += 1);
             lines.push(Line { cube, things });
@@ -52,9 +56,10 @@ fn first_meetings(cubes: usize, random: &mut Random, counts: &mut [u32]) -> Vec<
 // Prints the first meetings, without those that meet nothing that the others do not, then more cubes, then
 // the beginning of a line that does not end.
 pub fn sample(seed: u64) -> bool {
-    let (mut random, mut counts, mut printed) = (Random(seed), vec![0; SAMPLED], 0);
+    let (mut random, mut turns, mut printed) = (Random(seed), Turns::new(), 0);
+    let mut counts = vec![0; OF_TURN + turns.things()];
     print!("{}", String::from_utf8_lossy(INPUT_NAMES));
-    for line in first_meetings(6_000_000, &mut random, &mut counts) {
+    for line in first_meetings(6_000_000, &mut random, &mut turns, &mut counts) {
         line.things.iter().for_each(|&thing| counts[thing] -= 1);
         if line.things.iter().any(|&thing| counts[thing] == 0) {
             line.things.iter().for_each(|&thing| counts[thing] += 1);
@@ -66,6 +71,10 @@ pub fn sample(seed: u64) -> bool {
         print!("{}", input_line(&cube(&mut random, place % REGIMES.len())));
     }
     print!("3 0");
-    let unmet = wanted().into_iter().filter(|(thing, _)| counts[*thing] == 0);
-    unmet.map(|(_, name)| eprintln!("not in the sample: {name}")).count() == 0
+    let turned = turns.wanted().into_iter().map(|(turn, name)| (OF_TURN + turn, name));
+    let all: Vec<(usize, String)> = wanted().into_iter().chain(turned).collect();
+    let unmet = all.iter().filter(|(thing, _)| counts[*thing] == 0);
+    let missing = unmet.map(|(_, name)| eprintln!("not in the sample: {name}")).count();
+    eprintln!("{printed} cubes for {} things wanted, {missing} of them missing", all.len());
+    missing == 0
 }

@@ -121,6 +121,12 @@ pub fn text() -> bool {
     run().is_ok()
 }
 
+// The cubes of an input, up to a line that is none.
+pub fn sampled_cubes() -> Vec<Cube> {
+    let lines = stdin().lock().split(b'\n').skip(1);
+    lines.map_while(|line| parse(&line.ok()?)).collect()
+}
+
 pub fn input_line(cube: &Cube) -> String {
     let [case, configuration] = cube.given;
     let corners: Vec<String> = cube.corners.iter().map(|value| format!("{:08x}", value.to_bits())).collect();
