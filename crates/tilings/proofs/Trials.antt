@@ -1,9 +1,10 @@
--- What the controls of the cases try: which tilings a plan reaches, and for answers written down the choice that it makes. Assumes nothing.
+-- What the controls of the cases try: which tilings a plan reaches, for answers written down the choice that it makes, and the number s of a row by the
+-- corners of its cubes. Assumes nothing.
 use mathlib.Core.Bool.{Bool, true, false, cond, not, _&&_, _||_}
 use mathlib.Core.List.{List, map, foldr}
-use Prim.Native.Nat.{ℕ}
+use Prim.Native.Nat.{ℕ, zero, suc, _+_, _/_, _%_}
 use lib.IntN.{ℤ, pos, negsuc, natAbs}
-use lib.Dec.{eqb}
+use lib.Dec.{eqb, leb}
 use Rattle.cube.proofs.Table.{allUnder}
 use Rattle.notes.specs.Notes.{noNotes}
 use Rattle.interior.specs.Interior.{seen}
@@ -52,3 +53,11 @@ tiled code row column = tiling code row column false noNotes
 
 abbrev pub centred : ℕ → ℕ → ℕ → Chosen
 centred code row column = tiling code row column true noNotes
+
+-- ---- s by the set of the corners above 0 that the source's CASES has for the row, a bit for each corner: 7 where they are at most four
+abbrev corners : ℕ → ℕ → ℕ
+corners zero set = 0
+corners (suc n) set = set % 2 + corners n (set / 2)
+
+abbrev pub sideBy : ℕ → ℤ
+sideBy set = cond (leb (corners 8 set) 4) (pos 7) (negsuc 6)
