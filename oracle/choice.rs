@@ -4,9 +4,10 @@
 //                    edges, face tests, roots, refusals and lists as well
 //   speed            measures the two on the same cubes
 //   once COURSE      runs each once on 4,096 cubes of a row of that table, as `case 4`, for oracle/count.sh
-//   sample SEED      prints an input of the text program whose cubes meet everything
+//   sample SEED      prints an input of the text program whose cubes meet everything and turn with every
+//                    alteration of the tables; says what is missing
 //   input BYTES SEED prints about so many bytes of input for the text program, of mixed families
-//   altered          how many cubes of such an input turn with each alteration of the tables
+//   altered          says whether the cubes of such an input turn with every alteration of the tables
 //   text             the text program in plain Rust, over the Rust's handle_cube
 #[path = "choice/altered.rs"]
 mod altered;

@@ -25,9 +25,9 @@ thread_local! {
     static READ: Cell<&'static Entries> = const { Cell::new(&SOURCE) };
 }
 
-// A table's place in the list; for a table of rows their length too.
+// A table, of single entries or of rows, by its place in the list.
 pub struct Column(usize);
-pub struct Rows(usize, usize);
+pub struct Rows(usize);
 
 impl Index<usize> for Column {
     type Output = i8;
@@ -41,17 +41,18 @@ impl Index<usize> for Rows {
     type Output = [i8];
 
     fn index(&self, row: usize) -> &[i8] {
-        &READ.get()[self.0][self.1 * row..self.1 * (row + 1)]
+        let columns = TABLES[self.0].columns;
+        &READ.get()[self.0][columns * row..columns * (row + 1)]
     }
 }
 
 pub static TEST_3: Column = Column(0);
 pub static TEST_4: Column = Column(1);
-pub static TEST_6: Rows = Rows(2, 3);
-pub static TEST_7: Rows = Rows(3, 5);
-pub static TEST_10: Rows = Rows(4, 3);
-pub static TEST_12: Rows = Rows(5, 4);
-pub static TEST_13: Rows = Rows(6, 7);
+pub static TEST_6: Rows = Rows(2);
+pub static TEST_7: Rows = Rows(3);
+pub static TEST_10: Rows = Rows(4);
+pub static TEST_12: Rows = Rows(5);
+pub static TEST_13: Rows = Rows(6);
 pub static SUB_CONFIG_13: Column = Column(7);
 
 // A row begins with so many faces, then s if it has one. What comes after is never read: the last columns of TEST_6,
@@ -82,8 +83,8 @@ const TABLES: [Table; 8] = [
 
 const SUB_CONFIGURATIONS: usize = 7;
 
-// How an answer turns: by a face's answer or the number of a sub-configuration; by the interior test alone; by the
-// interior test of cases 10 and 12 with both faces true.
+// How an answer turns: by a face's answer or by an entry of SUB_CONFIG_13; by the interior test alone, the faces
+// answering as before; and so in cases 10 and 12 with both faces true.
 const OUTSIDE: usize = 0;
 const INSIDE: usize = 1;
 const INSIDE_BOTH: usize = 2;
@@ -200,20 +201,20 @@ impl Turns {
         self.all.len() * HOW.len()
     }
 
-    // How the answer turns with an alteration.
+    // The turn of the answer with an alteration, as a number of its own.
     fn turn(&mut self, number: usize, cube: &Cube, answer: [u8; 5]) -> Option<usize> {
         READ.set(self.all[number].entries);
         let altered = self.rust.choice(*cube);
         turned(cube, answer, altered).map(|how| number * HOW.len() + how)
     }
 
-    // Meets the alterations with which the cube's answer turns, among those of what it reads.
-    pub fn met(&mut self, cube: &Cube, answer: [u8; 5], number: Option<usize>, mut meet: impl FnMut(usize)) {
+    // The turns of the cube's answer with what it reads: its family's row and the entry of its sub-configuration.
+    pub fn met(&mut self, cube: &Cube, answer: [u8; 5], sub_configuration: Option<usize>, meet: impl FnMut(usize)) {
         READ.set(&SOURCE);
         assert!(self.rust.choice(*cube) == answer, "the altered copy parts from the others: {:?}", cube.corners);
         let mut read = self.of_family[family_of(cube.given)].clone();
-        number.iter().for_each(|&number| read.extend(&self.of_sub_configuration[number]));
-        read.into_iter().filter_map(|number| self.turn(number, cube, answer)).for_each(&mut meet);
+        sub_configuration.iter().for_each(|&row| read.extend(&self.of_sub_configuration[row]));
+        read.into_iter().filter_map(|number| self.turn(number, cube, answer)).for_each(meet);
     }
 
     // All that answers have to turn with, with names.
