@@ -1,5 +1,5 @@
 -- The reply to a line of the input, by the tests as they are made. Assumes nothing.
-use mathlib.Core.Path.{_≡_, sym, _∙_}
+use mathlib.Core.Path.{_≡_, sym, ap, _∙_}
 use mathlib.Core.Bool.{Bool, true, false}
 use mathlib.Core.List.{List}
 use Prim.Native.Nat.{ℕ, _≤_, _<_}
@@ -14,7 +14,7 @@ use Rattle.tilings.specs.Answers.{chosen}
 use Rattle.choice.specs.Choice.{choiceOf}
 use Rattle.line.specs.declared.Line.{Line}
 use Rattle.line.specs.declared.Line.the-variants.{Given, Malformed}
-use Rattle.line.specs.Line.{parseLine}
+use Rattle.line.specs.Line.{given, parsed, parseLine}
 use Rattle.line.proofs.Lengths.{short}
 use Rattle.answer.specs.Answer.{answer, refusal, same, inputNames, outputNames, choiceReply, cubeReply, replyTo}
 use Rattle.answer.proofs.Same.{equal-lengths}
@@ -34,14 +34,14 @@ module _ (number : ℕ) (line : List ℕ) where
   unfolding inputNames
   names-length named e t = equal-lengths line inputNames (sym e ∙ t)
 
-  given-length : (k c : ℤ) (q : Cube) → parseLine line ≡ Given k c q → 74 < length line
+  given-length : (k c : ℤ) (q : Cube) → parseLine line ≡ given k c q → 74 < length line
   given-length k c q g =
       lt-of-not-le λ (h : length line ≤ 74).
       let m = short line (omega arith) in
       let z : _≡_ {A = ℕ} 0 1 = cc in
       omega arith
 
-  module _ (later : 1 < number) (l : Line) (e : l ≡ parseLine line) where
+  module _ (later : 1 < number) (l : Line) (e : parsed l ≡ parseLine line) where
     pub malformed-reply : l ≡ Malformed → replyTo number line ≡ refusal 8
     unfolding replyTo cubeReply
     malformed-reply m = rw (lt-leb number 1 later, sym e, m)
@@ -56,5 +56,5 @@ module _ (number : ℕ) (line : List ℕ) where
         → Answered number (replyTo number line) (length line) xs at ys i over
     cube-answered k c y z q g f h r s xs at ys i over (place, (end, (text, (top, room)))) =
         let reply = cube-reply k c y z q g f h r s in
-        let long = given-length k c q (sym e ∙ g) in
+        let long = given-length k c q (sym e ∙ ap parsed g) in
         rw reply (place, (end, (text, (top, λ n. let short = room n in omega arith))))

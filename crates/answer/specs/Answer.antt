@@ -7,9 +7,8 @@ use Rattle.cube.specs.Bits.{bitOf}
 use Rattle.tilings.specs.Plan.{Chosen, empty, noTiling, tiling, refused}
 use Rattle.choice.specs.Choice.{choiceOf}
 use Rattle.put.specs.Decimal.{decimal}
-use Rattle.line.specs.declared.Line.{Line}
-use Rattle.line.specs.declared.Line.the-variants.{Given, Malformed}
-use Rattle.line.specs.Line.{parseLine}
+use Rattle.line.specs.Line as Line
+use Rattle.line.specs.Line.{Parsed, given, parseLine}
 
 -- case config c0 c1 c2 c3 c4 c5 c6 c7
 unfoldable pub inputNames : List ℕ
@@ -65,9 +64,9 @@ choiceReply (noTiling c sub) = answer (fields 255 c sub 0 0)
 choiceReply (tiling code row column centre m) = answer (fields code row column (bitOf centre) (m .unsettled))
 choiceReply (refused n) = refusal n
 
-unfoldable pub cubeReply : Line → Reply
-cubeReply (Given case configuration q) = choiceReply (choiceOf case configuration q)
-cubeReply Malformed = refusal 8
+unfoldable pub cubeReply : Parsed → Reply
+cubeReply (given case configuration q) = choiceReply (choiceOf case configuration q)
+cubeReply (Line.refused n) = refusal n
 
 -- the first line names the fields; there is no line 0
 unfoldable pub replyTo : ℕ → List ℕ → Reply

@@ -1,5 +1,5 @@
 // The answer to one line of the input: document 01, 'Program'. `print_choice` prints a choice's line,
-// `put_refused` the line of a refusal, `answer_line` answers a line. Inner routines of the text program,
+// `put_malformed` the line of refusal 8, `answer_line` answers a line. Inner routines of the text program,
 // which lends them room.
 ghost use mathlib.Core.Path.{_≡_};
 ghost use mathlib.Core.Bool.{true, false};
@@ -10,6 +10,7 @@ ghost use Rattle.tilings.specs.Answers.{chosen};
 ghost use Rattle.put.specs.Placed.{placed};
 ghost use Rattle.put.specs.Decimal.{decimal};
 ghost use Rattle.answer.specs.Answer.{same, inputNames, fields, refusedLine, choiceReply, replyTo, printed, ends};
+use cube::Refusal;
 use line::Line;
 use tilings::Choice;
 
@@ -43,7 +44,7 @@ fn put_fields(a: u8, b: u8, c: u8, d: u8, e: u8, out: &mut [u8], at: usize) -> u
 }
 
 // The line of a refusal's number at a line of the input.
-pub fn put_refused(why: u8, number: u64, out: &mut [u8], at: usize) -> usize
+fn put_refused(why: u8, number: u64, out: &mut [u8], at: usize) -> usize
     requires { ⌜ at + 64 ≤ length (now out) ⌝ }
     ensures place { λ r. ⌜ (r ≡ at + length (refusedLine why number)) × (r ≤ at + 64) ⌝ }
     ensures text { λ _. ⌜ now (out .exit) ≡ placed (now (out .entry)) at (refusedLine why number) ⌝ }
@@ -52,6 +53,15 @@ pub fn put_refused(why: u8, number: u64, out: &mut [u8], at: usize) -> usize
     let j = put_field(why, b' ', out, i);
     let k = put::decimal(number, out, j);
     put::byte(b'\n', out, k)
+}
+
+// The line of a malformed line's refusal.
+pub fn put_malformed(number: u64, out: &mut [u8], at: usize) -> usize
+    requires { ⌜ at + 64 ≤ length (now out) ⌝ }
+    ensures place { λ r. ⌜ (r ≡ at + length (refusedLine 8 number)) × (r ≤ at + 64) ⌝ }
+    ensures text { λ _. ⌜ now (out .exit) ≡ placed (now (out .entry)) at (refusedLine 8 number) ⌝ }
+{
+    put_refused(cube::number(Refusal::Malformed), number, out, at)
 }
 
 fn answered(at: usize) -> Printed
@@ -125,10 +135,10 @@ pub fn answer_line(line: &[u8], number: u64, out: &mut [u8], at: usize) -> Print
         if is_names(line) {
             return answered(put::bytes(b"code row column centre unsettled\n", out, at));
         }
-        return refused(put_refused(8, number, out, at));
+        return refused(put_malformed(number, out, at));
     }
     let Line::Given(case, configuration, q) = line::parse_line(line) else {
-        return refused(put_refused(8, number, out, at));
+        return refused(put_malformed(number, out, at));
     };
     print_choice(choice::handle_cube(case, configuration, q), number, out, at)
 }

@@ -19,8 +19,8 @@ use Rattle.hex.specs.Hex.{wordOf}
 use Rattle.hex.proofs.Digits.{first, second}
 use Rattle.line.specs.declared.Number.{Number}
 use Rattle.line.specs.declared.Number.the-variants.{Is, Broken}
-use Rattle.line.specs.declared.Line.the-variants.{Given, Malformed}
-use Rattle.line.specs.Line.{cornerBits, haveCorners, cubeIn, lineFrom}
+use Rattle.line.specs.Number.{Value, is, value}
+use Rattle.line.specs.Line.{given, malformed, cornerBits, haveCorners, cubeIn, lineFrom}
 
 module _ (tail : List ℕ) (k : ℕ) where
   pub after-space : {r : ℕ} → getD tail (9 * k) 0 ≡ 32 → r ≡ wordOf tail (9 * k + 1) → r ≡ cornerBits tail k
@@ -64,16 +64,16 @@ each-corner tail h k l =
     let same : getD (bits-in tail) k 0 ≡ cornerBits tail k = agree (λ i. getD (bits-in tail) i 0) (cornerBits tail) 8 refl k l in
     rw same at (each-low (bits-in tail) h k l)
 
-given : (x y : ℤ) (tail bits : List ℕ) → bits ≡ bits-in tail → all-low bits ≡ true → Given x y (in-turn (low bits)) ≡ lineFrom (Is x) (Is y) tail
+all-given : (x y : ℤ) (tail bits : List ℕ) → bits ≡ bits-in tail → all-low bits ≡ true → given x y (in-turn (low bits)) ≡ lineFrom (is x) (is y) tail
 unfolding lineFrom haveCorners cubeIn
-given x y tail bits e h =
+all-given x y tail bits e h =
     let g : all-low (bits-in tail) ≡ true = ap all-low (sym e) ∙ h in
     let q : in-turn (low bits) ≡ in-turn (bits-in tail) = ap in-turn (kept bits h ∙ e) in
     rw (g, q)
 
-refused : (x y : ℤ) (tail bits : List ℕ) → bits ≡ bits-in tail → all-low bits ≡ false → Malformed ≡ lineFrom (Is x) (Is y) tail
+not-all : (x y : ℤ) (tail bits : List ℕ) → bits ≡ bits-in tail → all-low bits ≡ false → malformed ≡ lineFrom (is x) (is y) tail
 unfolding lineFrom haveCorners
-refused x y tail bits e h = let g : all-low (bits-in tail) ≡ false = ap all-low (sym e) ∙ h in rw g
+not-all x y tail bits e h = let g : all-low (bits-in tail) ≡ false = ap all-low (sym e) ∙ h in rw g
 
 module _ (x y : ℤ) (tail : List ℕ) (case configuration : Number) (b0 b1 b2 b3 b4 b5 b6 b7 : ℕ) where
   abbrev pub tested : Bool
@@ -96,18 +96,18 @@ module _ (x y : ℤ) (tail : List ℕ) (case configuration : Number) (b0 b1 b2 b
   tests = simp (and-true, and-assoc)
 
   pub by-corners : {q : Cube} → SFits w8 x → SFits w8 y → case ≡ Is x → configuration ≡ Is y → Bits → tested ≡ true → q ≡ in-turn (low bits)
-      → Given (toZ w8 (ofZ w8 x)) (toZ w8 (ofZ w8 y)) q ≡ lineFrom case configuration tail
+      → given (toZ w8 (ofZ w8 x)) (toZ w8 (ofZ w8 y)) q ≡ lineFrom (value case) (value configuration) tail
   by-corners f g d e i h j =
-      rw (toZ-ofZ w8 x f, toZ-ofZ w8 y g, d, e, j) (given x y tail bits (listed i) (tests ∙ h))
+      rw (toZ-ofZ w8 x f, toZ-ofZ w8 y g, d, e, j) (all-given x y tail bits (listed i) (tests ∙ h))
 
-  pub by-no-corners : case ≡ Is x → configuration ≡ Is y → Bits → tested ≡ false → Malformed ≡ lineFrom case configuration tail
-  by-no-corners d e i h = rw (d, e) (refused x y tail bits (listed i) (tests ∙ h))
+  pub by-no-corners : case ≡ Is x → configuration ≡ Is y → Bits → tested ≡ false → malformed ≡ lineFrom (value case) (value configuration) tail
+  by-no-corners d e i h = rw (d, e) (not-all x y tail bits (listed i) (tests ∙ h))
 
-module _ (tail : List ℕ) (case configuration : Number) where
-  pub by-no-case : case ≡ Broken → Malformed ≡ lineFrom case configuration tail
+module _ (tail : List ℕ) (case : Number) where
+  pub by-no-case : (configuration : Value) → case ≡ Broken → malformed ≡ lineFrom (value case) configuration tail
   unfolding lineFrom
-  by-no-case e = rw e
+  by-no-case configuration e = rw e
 
-  pub by-no-configuration : (x : ℤ) → case ≡ Is x → configuration ≡ Broken → Malformed ≡ lineFrom case configuration tail
+  pub by-no-configuration : (configuration : Number) (x : ℤ) → case ≡ Is x → configuration ≡ Broken → malformed ≡ lineFrom (value case) (value configuration) tail
   unfolding lineFrom
-  by-no-configuration x d e = rw (d, e)
+  by-no-configuration configuration x d e = rw (d, e)

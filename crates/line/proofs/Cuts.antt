@@ -11,12 +11,8 @@ use lib.ListN.{length, take, drop, length-take, length-drop, drop-of-length-le}
 use lib.Seq.{take-all, take-take, take-nil}
 use borrow.Author.Tests.{eqb-true}
 use Rattle.bytes.specs.Bytes.{indexOf, indexAfter, slice}
-use Rattle.line.specs.declared.Number.{Number}
-use Rattle.line.specs.declared.Number.the-variants.{Is, Broken}
-use Rattle.line.specs.declared.Line.{Line}
-use Rattle.line.specs.declared.Line.the-variants.{Malformed}
-use Rattle.line.specs.Number.{signedOf}
-use Rattle.line.specs.Line.{lineFrom, parseLine}
+use Rattle.line.specs.Number.{Value, is, broken, signedOf}
+use Rattle.line.specs.Line.{Parsed, malformed, lineFrom, parseLine}
 use Rattle.line.proofs.Decimals.{nothing}
 
 pub drop-take : (m n : ℕ) (l : List ℕ) → drop m (take n l) ≡ take (n - m) (drop m l)
@@ -40,34 +36,34 @@ module _ (b : ℕ) where
   cut-at [] h = absurd (not-suc-le-zero h)
   cut-at (x ∷ xs) h = cut-after (eqb x b) x (indexOf b xs) xs refl h (cut-at xs)
 
-no-second : (case : Number) (tail : List ℕ) → lineFrom case Broken tail ≡ Malformed
+no-second : (case : Value) (tail : List ℕ) → lineFrom case broken tail ≡ malformed
 unfolding lineFrom
-no-second (Is x) tail = refl
-no-second Broken tail = refl
+no-second (is x) tail = refl
+no-second broken tail = refl
 
-no-first : (configuration : Number) (tail : List ℕ) → lineFrom Broken configuration tail ≡ Malformed
+no-first : (configuration : Value) (tail : List ℕ) → lineFrom broken configuration tail ≡ malformed
 unfolding lineFrom
 no-first configuration tail = refl
 
 module _ (line : List ℕ) where
   -- the line cut at n, and before that at k
-  abbrev pub cut : ℕ → ℕ → Line
+  abbrev pub cut : ℕ → ℕ → Parsed
   cut n k = lineFrom (signedOf (take k (take n line))) (signedOf (drop (suc k) (take n line))) (drop n line)
 
   pub is-cut : parseLine line ≡ cut (length line - 72) (indexOf 32 (take (length line - 72) line))
   unfolding parseLine
   is-cut = refl
 
-  pub first-broken : (n k : ℕ) → signedOf (take k (take n line)) ≡ Broken → cut n k ≡ Malformed
+  pub first-broken : (n k : ℕ) → signedOf (take k (take n line)) ≡ broken → cut n k ≡ malformed
   first-broken n k e = rw e (no-first (signedOf (drop (suc k) (take n line))) (drop n line))
 
-  pub second-broken : (n k : ℕ) → signedOf (drop (suc k) (take n line)) ≡ Broken → cut n k ≡ Malformed
+  pub second-broken : (n k : ℕ) → signedOf (drop (suc k) (take n line)) ≡ broken → cut n k ≡ malformed
   second-broken n k e = rw e (no-second (signedOf (take k (take n line))) (drop n line))
 
-  pub without-head : length line < 72 → Malformed ≡ parseLine line
+  pub without-head : length line < 72 → malformed ≡ parseLine line
   without-head h =
       let e : length line - 72 ≡ 0 = omega arith in
-      let empty : signedOf (take (indexOf 32 []) []) ≡ Broken = ap signedOf (take-nil (indexOf 32 [])) ∙ sym (nothing [] refl) in
+      let empty : signedOf (take (indexOf 32 []) []) ≡ broken = ap signedOf (take-nil (indexOf 32 [])) ∙ sym (nothing [] refl) in
       sym (is-cut ∙ ap (λ n. cut n (indexOf 32 (take n line))) e ∙ first-broken 0 (indexOf 32 []) empty)
 
   module _ (k : ℕ) (found : k ≡ 0 + indexOf 32 (slice 0 (length line - 72) line)) where
@@ -75,13 +71,13 @@ module _ (line : List ℕ) where
     unfolding slice
     at-space = is-cut ∙ ap (cut (length line - 72)) (sym (found ∙ zero-add (indexOf 32 (take (length line - 72) line))))
 
-    pub without-space : k ≡ length line - 72 → Malformed ≡ parseLine line
+    pub without-space : k ≡ length line - 72 → malformed ≡ parseLine line
     without-space e =
         let n = length line - 72 in
         let none : drop (suc k) (take n line) ≡ [] = drop-of-length-le (take n line) {i = suc k} (omega (arith, length-take n line)) in
         sym (at-space ∙ second-broken n k (ap signedOf none ∙ sym (nothing [] refl)))
 
-    pub by-parts : {r : Line} {case configuration : Number} {tail : List ℕ} → k ≤ length line - 72
+    pub by-parts : {r : Parsed} {case configuration : Value} {tail : List ℕ} → k ≤ length line - 72
         → case ≡ signedOf (take (k - 0) (drop 0 line)) → configuration ≡ signedOf (take (length line - 72 - (k + 1)) (drop (k + 1) line))
         → tail ≡ take (length line - (length line - 72)) (drop (length line - 72) line) → r ≡ lineFrom case configuration tail → r ≡ parseLine line
     by-parts {r} {case} {configuration} {tail} h d e t f =

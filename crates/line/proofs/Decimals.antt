@@ -13,9 +13,7 @@ use mir.Syntax.{w8}
 use mir.Val.{SFits, toZ, ofZ}
 use mir.ValLaws.{toZ-ofZ, toZ-pos}
 use Rattle.hex.proofs.Digits.{first, second, from-to}
-use Rattle.line.specs.declared.Number.{Number}
-use Rattle.line.specs.declared.Number.the-variants.{Is, Broken}
-use Rattle.line.specs.Number.{decimalDigit, oneDigit, twoDigits, threeDigits, wholeOf, signedOf}
+use Rattle.line.specs.Number.{Value, is, broken, decimalDigit, oneDigit, twoDigits, threeDigits, wholeOf, signedOf}
 
 mirrored : (k : ℕ) → negsuc 0 -ℤ pos k ≡ negsuc k
 mirrored zero = refl
@@ -43,16 +41,16 @@ below-zero n h =
 
 module _ (n : ℕ) where
   pub below-taken : from-to 1 128 n ≡ true
-      → Is (toZ w8 (ofZ w8 (negsuc 0 -ℤ toZ w8 (n - 1)))) ≡ cond (leb 1 n && leb n 128) (Is (negsuc (n - 1))) Broken
-  below-taken h = rw h (ap Is (below-zero n h .back))
+      → is (toZ w8 (ofZ w8 (negsuc 0 -ℤ toZ w8 (n - 1)))) ≡ cond (leb 1 n && leb n 128) (is (negsuc (n - 1))) broken
+  below-taken h = rw h (ap is (below-zero n h .back))
 
-  pub below-refused : from-to 1 128 n ≡ false → Broken ≡ cond (leb 1 n && leb n 128) (Is (negsuc (n - 1))) Broken
+  pub below-refused : from-to 1 128 n ≡ false → broken ≡ cond (leb 1 n && leb n 128) (is (negsuc (n - 1))) broken
   below-refused h = rw h
 
-  pub not-below-taken : n ≤ 127 → Is (toZ w8 n) ≡ cond (leb n 127) (Is (pos n)) Broken
-  not-below-taken h = let half : n < 128 = omega arith in rw (le-leb n 127 h) (ap Is (toZ-pos w8 n half))
+  pub not-below-taken : n ≤ 127 → is (toZ w8 n) ≡ cond (leb n 127) (is (pos n)) broken
+  not-below-taken h = let half : n < 128 = omega arith in rw (le-leb n 127 h) (ap is (toZ-pos w8 n half))
 
-  pub not-below-refused : 127 < n → Broken ≡ cond (leb n 127) (Is (pos n)) Broken
+  pub not-below-refused : 127 < n → broken ≡ cond (leb n 127) (is (pos n)) broken
   not-below-refused h = rw (lt-leb n 127 h)
 
 module _ (text : List ℕ) where
@@ -75,18 +73,18 @@ module _ (text : List ℕ) where
   unfolding wholeOf
   whole-of-other f g h = rw (ne-eqb (length text) 1 f, ne-eqb (length text) 2 g, ne-eqb (length text) 3 h)
 
-  pub minus-first : {r : Number} {n : ℕ} → getD text 0 0 ≡ 45 → n ≡ wholeOf (take (length text - 1) (drop 1 text))
-      → r ≡ cond (leb 1 n && leb n 128) (Is (negsuc (n - 1))) Broken → r ≡ signedOf text
+  pub minus-first : {r : Value} {n : ℕ} → getD text 0 0 ≡ 45 → n ≡ wholeOf (take (length text - 1) (drop 1 text))
+      → r ≡ cond (leb 1 n && leb n 128) (is (negsuc (n - 1))) broken → r ≡ signedOf text
   unfolding signedOf
   minus-first {r} {n} h e f =
       let rest : n ≡ wholeOf (drop 1 text) = e ∙ ap wholeOf (take-all (length text - 1) (drop 1 text) (omega (arith, length-drop 1 text))) in
       rw (eq-eqb (getD text 0 0) 45 h, ← rest) f
 
-  pub no-minus : {r : Number} {n : ℕ} → (getD text 0 0 ≡ 45 → ⊥) → n ≡ wholeOf text → r ≡ cond (leb n 127) (Is (pos n)) Broken → r ≡ signedOf text
+  pub no-minus : {r : Value} {n : ℕ} → (getD text 0 0 ≡ 45 → ⊥) → n ≡ wholeOf text → r ≡ cond (leb n 127) (is (pos n)) broken → r ≡ signedOf text
   unfolding signedOf
   no-minus h e f = rw (ne-eqb (getD text 0 0) 45 h, ← e) f
 
-pub nothing : (text : List ℕ) → length text ≡ 0 → Broken ≡ signedOf text
+pub nothing : (text : List ℕ) → length text ≡ 0 → broken ≡ signedOf text
 unfolding signedOf wholeOf
 nothing [] h = refl
 nothing (b ∷ text) h = absurd (omega arith)

@@ -10,8 +10,7 @@ use lib.IntN.{ℤ, pos, negsuc}
 use lib.ListN.{length, length-append}
 use Rattle.cube.proofs.Table.{under}
 use Rattle.put.specs.Decimal.{decimalIn, decimal}
-use Rattle.line.specs.declared.Line.the-variants.{Malformed}
-use Rattle.line.specs.Line.{parseLine}
+use Rattle.line.specs.Line.{malformed, parseLine}
 use Rattle.line.specs.Written.{inByte, signedText, hexText, corner, lineOf}
 use Rattle.line.proofs.OnlyWritten.{not-written}
 
@@ -39,14 +38,14 @@ line-length x y a b c d e f g h =
 
 module _ (line : List ℕ) where
   -- two digits, a space and the corners are 75 bytes
-  pub short : length line < 75 → parseLine line ≡ Malformed
+  pub short : length line < 75 → parseLine line ≡ malformed
   short h =
       not-written line (λ x y q w.
       let l = ap length (w .1 .1 .0) ∙ line-length x y _ _ _ _ _ _ _ _ in
       omega (arith, l, number-bounds x (w .0) .0, number-bounds y (w .1 .0) .0))
 
   -- two numbers as -128, a space and the corners are 81 bytes
-  pub long : 81 < length line → parseLine line ≡ Malformed
+  pub long : 81 < length line → parseLine line ≡ malformed
   long h =
       not-written line (λ x y q w.
       let l = ap length (w .1 .1 .0) ∙ line-length x y _ _ _ _ _ _ _ _ in

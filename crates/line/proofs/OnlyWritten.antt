@@ -11,12 +11,8 @@ use lib.ListN.{length, take, drop, length-drop, take-append-drop, drop-of-length
 use lib.Seq.{take-all, drop-drop}
 use Rattle.bytes.specs.Bytes.{indexOf}
 use Rattle.cube.specs.declared.Cube.{Cube}
-use Rattle.line.specs.declared.Number.{Number}
-use Rattle.line.specs.declared.Number.the-variants.{Is, Broken}
-use Rattle.line.specs.declared.Line.{Line}
-use Rattle.line.specs.declared.Line.the-variants.{Given, Malformed}
-use Rattle.line.specs.Number.{signedOf}
-use Rattle.line.specs.Line.{cornerBits, haveCorners, cubeIn, lineFrom, parseLine}
+use Rattle.line.specs.Number.{Value, is, broken, signedOf}
+use Rattle.line.specs.Line.{Parsed, given, refused, malformed, cornerBits, haveCorners, cubeIn, lineFrom, parseLine}
 use Rattle.line.specs.Written.{corner, lineOf, IsWritten, OnlyWritten}
 use Rattle.line.proofs.Decimals.{nothing}
 use Rattle.line.proofs.Corners.{each-corner}
@@ -53,9 +49,9 @@ module _ (tail : List ℕ) where
     corners-text = from-corner 7 0 refl
 
 -- ---- the line, by what it is read as
-abbrev IsLine : List ℕ → Line → Type 0
-IsLine line (Given case configuration q) = IsWritten line case configuration q
-IsLine line Malformed = Unit {0}
+abbrev IsLine : List ℕ → Parsed → Type 0
+IsLine line (given case configuration q) = IsWritten line case configuration q
+IsLine line (refused n) = n ≡ 8
 
 module _ (line : List ℕ) (long : 72 ≤ length line) where
   abbrev n : ℕ
@@ -72,22 +68,22 @@ module _ (line : List ℕ) (long : 72 ≤ length line) where
     at-the-space =
         sym (take-append-drop n line) ∙ ap (λ (l : List ℕ). l ++ drop n line) (cut-at 32 head space)
 
-    of-parts : (x y : Number) → IsText (take k head) x → IsText (drop (suc k) head) y → (t : Bool) → haveCorners (drop n line) ≡ t
+    of-parts : (x y : Value) → IsText (take k head) x → IsText (drop (suc k) head) y → (t : Bool) → haveCorners (drop n line) ≡ t
         → IsLine line (lineFrom x y (drop n line))
     unfolding lineFrom lineOf cubeIn
-    of-parts (Is x) (Is y) f g true e =
+    of-parts (is x) (is y) f g true e =
         let tail = corners-text (drop n line) (omega (arith, length-drop n line)) e in
         rw e (f .0, (g .0, (at-the-space ∙ (λ i. f .1 i ++ (32 ∷ g .1 i) ++ tail i), refl)))
-    of-parts (Is x) (Is y) f g false e = rw e tt
-    of-parts (Is x) Broken f g t e = tt
-    of-parts Broken y f g t e = tt
+    of-parts (is x) (is y) f g false e = rw e refl
+    of-parts (is x) broken f g t e = refl
+    of-parts broken y f g t e = refl
 
   of-head : IsLine line (parseLine line)
   of-head =
       ⊎-elim
       (λ (none : length head - k ≡ 0).
       let empty : drop (suc k) head ≡ [] = drop-of-length-le head {i = suc k} (omega arith) in
-      subst (IsLine line) (sym (is-cut line ∙ second-broken line n k (ap signedOf empty ∙ sym (nothing [] refl)))) tt)
+      subst (IsLine line) (sym (is-cut line ∙ second-broken line n k (ap signedOf empty ∙ sym (nothing [] refl)))) refl)
       (λ (space : 0 < length head - k).
       subst (IsLine line) (sym (is-cut line))
       (of-parts (omega arith) (signedOf (take k head)) (signedOf (drop (suc k) head)) (read-text (take k head)) (read-text (drop (suc k) head))
@@ -98,16 +94,16 @@ of-line : (line : List ℕ) → IsLine line (parseLine line)
 of-line line =
     ⊎-elim
     (λ (long : 72 - length line ≡ 0). of-head line (omega arith))
-    (λ (short : 0 < 72 - length line). subst (IsLine line) (without-head line (omega arith)) tt)
+    (λ (short : 0 < 72 - length line). subst (IsLine line) (without-head line (omega arith)) refl)
     (eq-zero-or-pos (72 - length line))
 
 pub only-written : OnlyWritten
 only-written line case configuration q e = subst (IsLine line) e (of-line line)
 
-refused : (line : List ℕ) (r : Line) → IsLine line r → ((x y : ℤ) (q : Cube) → IsWritten line x y q → ⊥) → r ≡ Malformed
-refused line (Given x y q) w no-way = absurd (no-way x y q w)
-refused line Malformed w no-way = refl
+no-line : (line : List ℕ) (r : Parsed) → IsLine line r → ((x y : ℤ) (q : Cube) → IsWritten line x y q → ⊥) → r ≡ malformed
+no-line line (given x y q) w no-way = absurd (no-way x y q w)
+no-line line (refused n) w no-way = ap refused w
 
 -- what is the line of no numbers is refused
-pub not-written : (line : List ℕ) → ((x y : ℤ) (q : Cube) → IsWritten line x y q → ⊥) → parseLine line ≡ Malformed
-not-written line = refused line (parseLine line) (of-line line)
+pub not-written : (line : List ℕ) → ((x y : ℤ) (q : Cube) → IsWritten line x y q → ⊥) → parseLine line ≡ malformed
+not-written line = no-line line (parseLine line) (of-line line)

@@ -10,9 +10,7 @@ use borrow.Author.Tests.{ltb-true, leb-true, eqb-true}
 use Rattle.hex.proofs.Digits.{first, second, from-to, not-before}
 use Rattle.put.specs.Decimal.{decimal}
 use Rattle.put.proofs.Digits.{decimal-one, decimal-more}
-use Rattle.line.specs.declared.Number.{Number}
-use Rattle.line.specs.declared.Number.the-variants.{Is, Broken}
-use Rattle.line.specs.Number.{decimalDigit, oneDigit, twoDigits, threeDigits, wholeOf, signedOf}
+use Rattle.line.specs.Number.{Value, is, broken, decimalDigit, oneDigit, twoDigits, threeDigits, wholeOf, signedOf}
 use Rattle.line.specs.Written.{inByte, signedText}
 use Rattle.line.proofs.Digits.{passed, a-digit, one-taken, are-two, two-taken, two-bounds, are-three, three-taken, three-bounds}
 use Rattle.line.proofs.Decimals.{whole-of-other, nothing}
@@ -73,11 +71,11 @@ whole-text (a ∷ b ∷ c ∷ d ∷ text) h =
     absurd (omega (arith, whole-of-other (a ∷ b ∷ c ∷ d ∷ text) (λ e. omega arith) (λ e. omega arith) (λ e. omega arith)))
 
 -- ---- with its sign: what a text is, by the number that it is read as
-abbrev pub IsText : List ℕ → Number → Type 0
-IsText text (Is z) = T (inByte z) × (text ≡ signedText z)
-IsText text Broken = Unit {0}
+abbrev pub IsText : List ℕ → Value → Type 0
+IsText text (is z) = T (inByte z) × (text ≡ signedText z)
+IsText text broken = Unit {0}
 
-after-minus : (rest : List ℕ) (t : Bool) → from-to 1 128 (wholeOf rest) ≡ t → IsText (45 ∷ rest) (cond t (Is (negsuc (wholeOf rest - 1))) Broken)
+after-minus : (rest : List ℕ) (t : Bool) → from-to 1 128 (wholeOf rest) ≡ t → IsText (45 ∷ rest) (cond t (is (negsuc (wholeOf rest - 1))) broken)
 unfolding signedText
 after-minus rest true e =
     let n = wholeOf rest in
@@ -87,7 +85,7 @@ after-minus rest true e =
     (lt→ltb (n - 1) 128 (omega arith), ap (λ (text : List ℕ). 45 ∷ text) (whole-text rest (omega arith) ∙ ap decimal s))
 after-minus rest false e = tt
 
-no-minus : (text : List ℕ) (t : Bool) → leb (wholeOf text) 127 ≡ t → IsText text (cond t (Is (pos (wholeOf text))) Broken)
+no-minus : (text : List ℕ) (t : Bool) → leb (wholeOf text) 127 ≡ t → IsText text (cond t (is (pos (wholeOf text))) broken)
 unfolding signedText
 no-minus text true e =
     let l = leb-true (wholeOf text) 127 e in
@@ -97,11 +95,11 @@ no-minus text false e = tt
 by-sign : (b : ℕ) (rest : List ℕ) (t : Bool) → eqb b 45 ≡ t
     → IsText (b ∷ rest) (
     cond t
-    (cond (from-to 1 128 (wholeOf rest)) (Is (negsuc (wholeOf rest - 1))) Broken)
-    (cond (leb (wholeOf (b ∷ rest)) 127) (Is (pos (wholeOf (b ∷ rest)))) Broken)
+    (cond (from-to 1 128 (wholeOf rest)) (is (negsuc (wholeOf rest - 1))) broken)
+    (cond (leb (wholeOf (b ∷ rest)) 127) (is (pos (wholeOf (b ∷ rest)))) broken)
     )
 by-sign b rest true e =
-    let r = cond (from-to 1 128 (wholeOf rest)) (Is (negsuc (wholeOf rest - 1))) Broken in
+    let r = cond (from-to 1 128 (wholeOf rest)) (is (negsuc (wholeOf rest - 1))) broken in
     subst (λ x. IsText (x ∷ rest) r) (sym (eqb-true b 45 e)) (after-minus rest (from-to 1 128 (wholeOf rest)) refl)
 by-sign b rest false e = no-minus (b ∷ rest) (leb (wholeOf (b ∷ rest)) 127) refl
 

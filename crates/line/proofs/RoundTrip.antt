@@ -11,10 +11,8 @@ use lib.Seq.{take-append-seam, drop-append-seam, drop-append-add}
 use borrow.Author.Tests.{lt-ltb}
 use Rattle.bytes.specs.Bytes.{indexOf}
 use Rattle.cube.specs.Corners.{cube}
-use Rattle.line.specs.declared.Line.the-variants.{Given}
-use Rattle.line.specs.declared.Number.the-variants.{Is}
-use Rattle.line.specs.Number.{signedOf}
-use Rattle.line.specs.Line.{cornerBits, haveCorners, cubeIn, lineFrom, parseLine}
+use Rattle.line.specs.Number.{is, signedOf}
+use Rattle.line.specs.Line.{given, cornerBits, haveCorners, cubeIn, lineFrom, parseLine}
 use Rattle.line.specs.Written.{inByte, signedText, hexText, corner, lineOf, WrittenBack}
 use Rattle.line.proofs.WrittenDecimals.{signed-back, first-space}
 use Rattle.line.proofs.WrittenWords.{word-back}
@@ -25,7 +23,7 @@ lineFrom-corners : (case configuration : ℤ) (tail : List ℕ) (a b c d e f g h
     → cornerBits tail 4 ≡ e → cornerBits tail 5 ≡ f → cornerBits tail 6 ≡ g → cornerBits tail 7 ≡ h
     → a < 0x100000000 → b < 0x100000000 → c < 0x100000000 → d < 0x100000000
     → e < 0x100000000 → f < 0x100000000 → g < 0x100000000 → h < 0x100000000
-    → lineFrom (Is case) (Is configuration) tail ≡ Given case configuration (cube a b c d e f g h)
+    → lineFrom (is case) (is configuration) tail ≡ given case configuration (cube a b c d e f g h)
 unfolding lineFrom haveCorners cubeIn
 lineFrom-corners case configuration tail a b c d e f g h ea eb ec ed ee ef eg eh la lb lc ld le lf lg lh =
     simp (ea, eb, ec, ed, ee, ef, eg, eh, lt-ltb)
@@ -39,7 +37,7 @@ parse-seam head tail h =
     rw (n, take-append-seam head tail, drop-append-seam head tail)
 
 parse-head : (case configuration : ℤ) (tail : List ℕ) → T (inByte case) → T (inByte configuration) → length tail ≡ 72
-    → parseLine (signedText case ++ (32 ∷ signedText configuration) ++ tail) ≡ lineFrom (Is case) (Is configuration) tail
+    → parseLine (signedText case ++ (32 ∷ signedText configuration) ++ tail) ≡ lineFrom (is case) (is configuration) tail
 parse-head case configuration tail h k l =
     let xs = signedText case in
     let ys = signedText configuration in

@@ -8,27 +8,25 @@ use lib.ListN.{length}
 use Rattle.bytes.specs.Bytes.{indexOf}
 use Rattle.cube.proofs.Table.{valuesOf, agree}
 use Rattle.put.specs.Decimal.{decimalIn, decimal}
-use Rattle.line.specs.declared.Number.{Number}
-use Rattle.line.specs.declared.Number.the-variants.{Is}
-use Rattle.line.specs.Number.{decimalDigit, oneDigit, twoDigits, threeDigits, wholeOf, signedOf}
+use Rattle.line.specs.Number.{Value, is, decimalDigit, oneDigit, twoDigits, threeDigits, wholeOf, signedOf}
 use Rattle.line.specs.Written.{inByte, signedText}
 
 -- ---- its value: computed at every number
-read : ℤ → Number
+read : ℤ → Value
 read z = signedOf (signedText z)
 
-not-below : valuesOf (λ n. read (pos n)) 128 ≡ valuesOf (λ n. Is (pos n)) 128
+not-below : valuesOf (λ n. read (pos n)) 128 ≡ valuesOf (λ n. is (pos n)) 128
 unfolding read signedOf signedText wholeOf oneDigit twoDigits threeDigits decimalDigit decimal decimalIn
 not-below = refl
 
-below : valuesOf (λ n. read (negsuc n)) 128 ≡ valuesOf (λ n. Is (negsuc n)) 128
+below : valuesOf (λ n. read (negsuc n)) 128 ≡ valuesOf (λ n. is (negsuc n)) 128
 unfolding read signedOf signedText wholeOf oneDigit twoDigits threeDigits decimalDigit decimal decimalIn
 below = refl
 
-pub signed-back : (z : ℤ) → T (inByte z) → signedOf (signedText z) ≡ Is z
+pub signed-back : (z : ℤ) → T (inByte z) → signedOf (signedText z) ≡ is z
 unfolding read
-signed-back (pos n) h = agree (λ k. read (pos k)) (λ k. Is (pos k)) 128 not-below n (ltb→lt n 128 h)
-signed-back (negsuc n) h = agree (λ k. read (negsuc k)) (λ k. Is (negsuc k)) 128 below n (ltb→lt n 128 h)
+signed-back (pos n) h = agree (λ k. read (pos k)) (λ k. is (pos k)) 128 not-below n (ltb→lt n 128 h)
+signed-back (negsuc n) h = agree (λ k. read (negsuc k)) (λ k. is (negsuc k)) 128 below n (ltb→lt n 128 h)
 
 -- ---- its end, whatever follows the space
 module _ (rest : List ℕ) where

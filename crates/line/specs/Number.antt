@@ -3,10 +3,20 @@ use Prim.Native.Nat.{ℕ, _+_, _-_, _*_}
 use mathlib.Core.Bool.{cond, _&&_}
 use mathlib.Core.List.{List}
 use lib.Dec.{eqb, ltb, leb}
-use lib.IntN.{pos, negsuc}
+use lib.IntN.{ℤ, pos, negsuc}
 use lib.ListN.{length, getD, drop}
 use Rattle.line.specs.declared.Number.{Number}
 use Rattle.line.specs.declared.Number.the-variants.{Is, Broken}
+
+-- a text as a number: what it is, or that it is none
+pub data Value : Type 0 where
+  is : ℤ → Value
+  broken : Value
+
+-- the numbers of the code as document 01's
+abbrev pub value : Number → Value
+value (Is n) = is n
+value Broken = broken
 
 -- a digit's value, and 10 for any other byte
 unfoldable pub decimalDigit : ℕ → ℕ
@@ -31,10 +41,10 @@ wholeOf text =
     (cond (eqb (length text) 3) (threeDigits (digit 0) (digit 1) (digit 2)) 1000))
 
 -- 45 is '-'
-unfoldable pub signedOf : List ℕ → Number
+unfoldable pub signedOf : List ℕ → Value
 signedOf text =
     let n = wholeOf (drop 1 text) in
     let m = wholeOf text in
     cond (eqb (getD text 0 0) 45)
-    (cond (leb 1 n && leb n 128) (Is (negsuc (n - 1))) Broken)
-    (cond (leb m 127) (Is (pos m)) Broken)
+    (cond (leb 1 n && leb n 128) (is (negsuc (n - 1))) broken)
+    (cond (leb m 127) (is (pos m)) broken)

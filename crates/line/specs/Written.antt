@@ -9,8 +9,7 @@ use lib.ListN.{length, drop}
 use Rattle.cube.specs.declared.Cube.{Cube}
 use Rattle.cube.specs.Corners.{cube}
 use Rattle.put.specs.Decimal.{decimal}
-use Rattle.line.specs.declared.Line.the-variants.{Given}
-use Rattle.line.specs.Line.{cornerBits, parseLine}
+use Rattle.line.specs.Line.{given, cornerBits, parseLine}
 
 -- -128..127
 abbrev pub inByte : ℤ → Bool
@@ -45,7 +44,7 @@ WrittenBack =
     (case configuration : ℤ) (a b c d e f g h : ℕ) → T (inByte case) → T (inByte configuration)
     → a < 0x100000000 → b < 0x100000000 → c < 0x100000000 → d < 0x100000000
     → e < 0x100000000 → f < 0x100000000 → g < 0x100000000 → h < 0x100000000
-    → parseLine (lineOf case configuration a b c d e f g h) ≡ Given case configuration (cube a b c d e f g h)
+    → parseLine (lineOf case configuration a b c d e f g h) ≡ given case configuration (cube a b c d e f g h)
 
 -- line is the line of a case, a configuration and the corners of q
 abbrev pub IsWritten : List ℕ → ℤ → ℤ → Cube → Type 0
@@ -58,4 +57,4 @@ IsWritten line case configuration q =
 -- no other line is read
 abbrev pub OnlyWritten : Type 0
 OnlyWritten =
-    (line : List ℕ) (case configuration : ℤ) (q : Cube) → parseLine line ≡ Given case configuration q → IsWritten line case configuration q
+    (line : List ℕ) (case configuration : ℤ) (q : Cube) → parseLine line ≡ given case configuration q → IsWritten line case configuration q

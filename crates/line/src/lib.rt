@@ -7,8 +7,8 @@ ghost use lib.Ieee.{ofBits, binary32};
 ghost use lib.IntN.{pos, negsuc};
 ghost use lib.ListN.{length};
 ghost use Rattle.cube.specs.Corners.{cube};
-ghost use Rattle.line.specs.Number.{decimalDigit, oneDigit, twoDigits, threeDigits, wholeOf, signedOf};
-ghost use Rattle.line.specs.Line.{cornerBits, lineFrom, parseLine};
+ghost use Rattle.line.specs.Number.{is, broken, value, decimalDigit, oneDigit, twoDigits, threeDigits, wholeOf, signedOf};
+ghost use Rattle.line.specs.Line.{parsed, cornerBits, lineFrom, parseLine};
 ghost use Rattle.line.specs.Written.{WrittenBack, OnlyWritten};
 use cube::Cube;
 
@@ -75,7 +75,7 @@ fn whole(text: &[u8]) -> u32
 
 // -n, where that is in -128..-1.
 fn below(n: u32) -> Number
-    ensures { λ r. ⌜ r ≡ cond (leb 1 n && leb n 128) (Number.Is (negsuc (n - 1))) Number.Broken ⌝ }
+    ensures { λ r. ⌜ value r ≡ cond (leb 1 n && leb n 128) (is (negsuc (n - 1))) broken ⌝ }
 {
     if (1 <= n) & (n <= 128) {
         return Number::Is(-1 - ((n - 1) as i8));
@@ -85,7 +85,7 @@ fn below(n: u32) -> Number
 
 // n, where that is in 0..127.
 fn not_below(n: u32) -> Number
-    ensures { λ r. ⌜ r ≡ cond (leb n 127) (Number.Is (pos n)) Number.Broken ⌝ }
+    ensures { λ r. ⌜ value r ≡ cond (leb n 127) (is (pos n)) broken ⌝ }
 {
     if n <= 127 {
         return Number::Is(n as i8);
@@ -95,7 +95,7 @@ fn not_below(n: u32) -> Number
 
 // A decimal in -128..127.
 fn signed(text: &[u8]) -> Number
-    ensures { λ r. ⌜ r ≡ signedOf (now (text .entry)) ⌝ }
+    ensures { λ r. ⌜ value r ≡ signedOf (now (text .entry)) ⌝ }
 {
     if text.len() == 0 {
         return Number::Broken;
@@ -145,7 +145,7 @@ fn cube_of(b0: u64, b1: u64, b2: u64, b3: u64, b4: u64, b5: u64, b6: u64, b7: u6
 // The line of two numbers and the last 72 bytes.
 fn line_from(case: Number, configuration: Number, tail: &[u8]) -> Line
     requires { ⌜ 72 ≤ length (now tail) ⌝ }
-    ensures { λ r. ⌜ r ≡ lineFrom case configuration (now (tail .entry)) ⌝ }
+    ensures { λ r. ⌜ parsed r ≡ lineFrom (value case) (value configuration) (now (tail .entry)) ⌝ }
 {
     let Number::Is(k) = case else {
         return Line::Malformed;
@@ -172,7 +172,7 @@ fn line_from(case: Number, configuration: Number, tail: &[u8]) -> Line
 // A line without its newline: its last 72 bytes are the corners, and what comes before is cut at its
 // first space.
 pub fn parse_line(line: &[u8]) -> Line
-    ensures line { λ r. ⌜ r ≡ parseLine (now (line .entry)) ⌝ }
+    ensures line { λ r. ⌜ parsed r ≡ parseLine (now (line .entry)) ⌝ }
     ensures back { λ _. ⌜ WrittenBack ⌝ }
     ensures only { λ _. ⌜ OnlyWritten ⌝ }
 {

@@ -26,7 +26,7 @@ fn part_line(input: &[u8], at: usize, number: u64, out: &mut [u8], put: usize) -
 {
     if 82 <= input.len() - at {
         return Answered {
-            put: answer::put_refused(8, number, out, put),
+            put: answer::put_malformed(number, out, put),
             left: input.len(),
             number: number,
             over: true,
@@ -81,5 +81,5 @@ pub fn finish(part: &[u8], number: u64, out: &mut [u8]) -> usize
     if (part.len() == 0) & (1 < number) {
         return 0;
     }
-    answer::put_refused(8, number, out, 0)
+    answer::put_malformed(number, out, 0)
 }

@@ -38,8 +38,8 @@ returns c =
     (c .answered .ensures)
     (omega (arith, put .0))
 
-put-refused-requires : tie.Need-put-refused-requires
-put-refused-requires c κs = search needs
+put-malformed-requires : tie.Need-put-malformed-requires
+put-malformed-requires c κs = search needs
 
 refused-requires : tie.Need-refused-requires
 refused-requires c κs = search needs
@@ -53,7 +53,7 @@ returns-2 c =
     let first = test .before .before in
     refusal-put _ _ _ _ _ _ _ _ _ _
     (no-names-reply _ _ (first .if1 .taken) _ (test .before .is-names .ensures) (test .if2 .left))
-    (c .before .before .before .put-refused .ensures)
+    (c .before .before .before .put-malformed .ensures)
     (c .refused .ensures)
 
 parse-line-requires : tie.Need-parse-line-requires
@@ -65,8 +65,8 @@ enum-known-case c = search needs
 enum-told : tie.Need-enum-told
 enum-told c = search needs
 
-put-refused-requires-2 : tie.Need-put-refused-requires-2
-put-refused-requires-2 c κs = search needs
+put-malformed-requires-2 : tie.Need-put-malformed-requires-2
+put-malformed-requires-2 c κs = search needs
 
 refused-requires-2 : tie.Need-refused-requires-2
 refused-requires-2 c κs = search needs
@@ -80,7 +80,7 @@ returns-3 c =
     let parsed = told .before .before in
     refusal-put _ _ _ _ _ _ _ _ _ _
     (malformed-reply _ _ (parsed .before .if1 .left) _ (parsed .parse-line .ensures .0) (told .enum-told .given .1))
-    (c .before .before .before .put-refused2 .ensures)
+    (c .before .before .before .put-malformed2 .ensures)
     (c .refused2 .ensures)
 
 handle-cube-requires : tie.Need-handle-cube-requires
@@ -117,14 +117,14 @@ answer-line-spec =
     answered-requires
     same-length
     returns
-    put-refused-requires
+    put-malformed-requires
     refused-requires
     same-length-2
     returns-2
     parse-line-requires
     enum-known-case
     enum-told
-    put-refused-requires-2
+    put-malformed-requires-2
     refused-requires-2
     same-length-3
     returns-3

@@ -12,20 +12,20 @@ returns c =
     let so = ends-whole (start .args .part .now) (start .args .number) (start .args .out .now) (c .if1 .taken) in
     (so .0, (so .1, blocks-join))
 
-put-refused-requires : tie.Need-put-refused-requires
-put-refused-requires c κs = omega arith
+put-malformed-requires : tie.Need-put-malformed-requires
+put-malformed-requires c κs = omega arith
 
 same-length : tie.Need-same-length
 same-length c = search needs
 
 returns-2 : tie.Need-returns-2
 returns-2 c =
-    let put = c .before .before .put-refused in
+    let put = c .before .before .put-malformed in
     let start = c .before .before .before .before .before .before .before in
     let so =
     ends-refused (start .args .part .now) (start .args .number) (start .args .out .now) (c .before .before .before .before .if1 .left)
-    (put .result) (put .last .1 .1 .0) (put .ensures .0) (put .ensures .1) in
+    (put .result) (put .last .1 .0) (put .ensures .0) (put .ensures .1) in
     (so .0, (so .1, blocks-join))
 
 pub finish-spec : {M : Type 1} → statement M
-finish-spec = tie.close (tie.spec returns put-refused-requires same-length returns-2)
+finish-spec = tie.close (tie.spec returns put-malformed-requires same-length returns-2)
