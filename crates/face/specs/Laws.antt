@@ -7,7 +7,7 @@ use lib.Ieee.{Float, nan, fin, binary32, ofBits, neg, sub, mul, lt, le}
 use Rattle.binary32.specs.Numbers.{f32, magnitude, epsilon}
 use Rattle.cube.specs.declared.Cube.{Cube}
 use Rattle.cube.specs.Corners.{cornerOf}
-use Rattle.face.specs.Face.{faceCorner, isPositive, isFace, rule}
+use Rattle.face.specs.Face.{faceCorner, isPositive, isFace, rule, Said, answer, refused}
 
 -- 1e-6 as an f32
 abbrev pub least : Float
@@ -42,3 +42,8 @@ pub record FaceLaws (n : ℤ) (a b c d : Float) (r : Bool) : Type 0 where
 
 abbrev pub FaceLawsAt : Cube → ℤ → Bool → Type 0
 FaceLawsAt q n r = FaceLaws n (cornerOf q (faceCorner n 0)) (cornerOf q (faceCorner n 1)) (cornerOf q (faceCorner n 2)) (cornerOf q (faceCorner n 3)) r
+
+-- of what the public routine says, where it is an answer
+abbrev pub FaceLawsOf : Cube → ℤ → Said → Type 0
+FaceLawsOf q n (answer r) = FaceLawsAt q n r
+FaceLawsOf q n (refused why) = Unit {0}

@@ -6,7 +6,7 @@ ghost use lib.IntN.{natAbs};
 ghost use Rattle.binary32.specs.Numbers.{f32};
 ghost use Rattle.face.specs.Face.{rule, faceOf, said, testFaceOf};
 ghost use Rattle.face.specs.Columns.{placeOf, squareOf};
-ghost use Rattle.face.specs.Laws.{FaceLawsAt};
+ghost use Rattle.face.specs.Laws.{FaceLawsAt, FaceLawsOf};
 use cube::Cube;
 use cube::Face;
 use cube::Refusal;
@@ -90,7 +90,8 @@ pub fn face_answer(q: Cube, face: Face) -> bool
 
 // The face test: refusal 4 where the number is no face, 3 where a corner is not finite, or the answer.
 pub fn test_face(q: Cube, face: Face) -> FaceAnswer
-    ensures { λ r. ⌜ said r ≡ testFaceOf q (face .0) ⌝ }
+    ensures answer { λ r. ⌜ said r ≡ testFaceOf q (face .0) ⌝ }
+    ensures laws { λ r. ⌜ FaceLawsOf q (face .0) (said r) ⌝ }
 {
     if place(face) == 0 {
         return FaceAnswer::Refused(Refusal::NoFace);
