@@ -1,6 +1,6 @@
 -- Term 3, `FacesAgree`: whatever stands off the face where two cubes meet, their answers are equal exactly when the face numbers' signs are. Assumes nothing.
 use mathlib.Core.Path.{_≡_, refl, sym, _∙_}
-use mathlib.Core.Logic.{_⊎_, inl, inr}
+use mathlib.Core.Logic.{_↔_, _⊎_, inl, inr}
 use mathlib.Core.Bool.{Bool, true, false, _&&_, _||_, Bool·beq}
 use mathlib.Core.List.{List, [], _∷_}
 use Prim.Native.Nat.{ℕ}
@@ -143,3 +143,7 @@ pub faces-agree : FacesAgree
 faces-agree k n l p t =
     let h = by-signs k n l p t in
     (like (faceOf k n) (faceOf l p) (isPositive n) (isPositive p) h, like (isPositive n) (isPositive p) (faceOf k n) (faceOf l p) (sym h))
+
+-- with face 3, 4 or 6 in the first cube
+pub other-order : (k : Cube) (n : ℤ) (l : Cube) (p : ℤ) → T (joined l p k n) → (faceOf k n ≡ faceOf l p) ↔ (isPositive n ≡ isPositive p)
+other-order k n l p t = let h = faces-agree l p k n t in (λ e. sym (h .0 (sym e)), λ e. sym (h .1 (sym e)))

@@ -20,7 +20,7 @@ use Rattle.face.proofs.Places.{face-place, face-size}
 use Rattle.meeting.specs.declared.Compared.{Compared}
 use Rattle.meeting.specs.declared.Compared.the-variants.{Equal, Apart, Refused}
 use Rattle.meeting.specs.Meeting.{sameValues, meetAt, meet, alternateAt, joined, FacesAgree, said, comparedOf, AgreeBySign}
-use Rattle.meeting.proofs.Agreement.{faces-agree}
+use Rattle.meeting.proofs.Agreement.{faces-agree, other-order}
 
 module _ (k : Cube) (n : ℕ) (l : Cube) (p : ℕ) where
   pub by-one : n ≡ 1 → eqb p 3 && eq (k .c0) (l .c3) && eq (k .c4) (l .c7) && eq (k .c5) (l .c6) && eq (k .c1) (l .c2) ≡ meet k n l p
@@ -51,7 +51,7 @@ agree : (k : Cube) (n : ℤ) (l : Cube) (p : ℤ) → T (joined k n l p || joine
 agree k n l p t =
     elim (either (joined k n l p) (joined l p k n) t) [
       | inl u ↦ faces-agree k n l p u
-      | inr u ↦ (λ e. sym (faces-agree l p k n u .0 (sym e)), λ e. sym (faces-agree l p k n u .1 (sym e)))
+      | inr u ↦ other-order k n l p u
     ]
 
 -- of a result that compares the answers r and s

@@ -55,6 +55,8 @@ alternateAt k n = alternate (cornerOf k (faceCorner n 0)) (cornerOf k (faceCorne
 unfoldable pub joined : Cube → ℤ → Cube → ℤ → Bool
 joined k n l p = meet k (natAbs n) l (natAbs p) && alternateAt k n
 
+-- term 3, with face 1, 2 or 5 in the first cube. With 3, 4 or 6 there it follows: name the other cube first, and turn both equations round (`other-order`,
+-- proofs/Agreement.antt)
 abbrev pub FacesAgree : Type 0
 FacesAgree = (k : Cube) (n : ℤ) (l : Cube) (p : ℤ) → T (joined k n l p) → (faceOf k n ≡ faceOf l p) ↔ (isPositive n ≡ isPositive p)
 
