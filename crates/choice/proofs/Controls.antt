@@ -3,7 +3,7 @@
 use mathlib.Core.Path.{_≡_, refl}
 use mathlib.Core.Bool.{Bool, true, false, cond}
 use mathlib.Core.List.{List, [], _∷_, _++_, map, foldr}
-use Prim.Native.Nat.{ℕ}
+use Prim.Native.Nat.{ℕ, suc}
 use lib.Dec.{eqb}
 use lib.IntN.{ℤ, pos, negsuc}
 use lib.Ieee.{ofBits, neg, add, sub, mul, div, lt, eq, le, isNan, ofInt}
@@ -190,12 +190,6 @@ pasts =
     ∷ past 13 (tile 35 0 4 true 0)
     ∷ past 4 (tile 6 0 0 true 0)
     ∷ past 7 (tile 13 0 0 false 0)
-    ∷ past 4 (tile 6 0 0 false 4)
-    ∷ past 6 (tile 8 0 0 false 2)
-    ∷ past 7 (tile 15 0 0 false 4)
-    ∷ past 10 (tile 20 0 0 false 2)
-    ∷ past 12 (tile 26 0 0 false 3)
-    ∷ past 13 (tile 29 0 0 false 1)
     ∷ past 0 (tile 38 0 0 false 0)
     ∷ past 1 empty
     ∷ past 12 (noTiling 0 5)
@@ -214,3 +208,38 @@ pasts =
 pasts-hold : map (λ p. inRanges (p .case) (p .chosen)) pasts ≡ map (λ p. false) pasts
 unfolding pasts inRanges readings holdsMinus1 «SUB_CONFIG_13» configurations tilingsOf columnsOf hasCentre
 pasts-hold = refl
+
+-- for each case a tiling of it, and how many edge readings a choice makes at most: so many are unsettled, and no more
+record Most : Type 0 where
+  case : ℕ
+  code : ℕ
+  unsettled : ℕ
+
+abbrev most : ℕ → ℕ → ℕ → Most
+most k code n = record { case = k; code = code; unsettled = n }
+
+mosts : List Most
+mosts =
+    most 1 1 0
+    ∷ most 2 2 0
+    ∷ most 3 3 0
+    ∷ most 4 6 3
+    ∷ most 5 7 0
+    ∷ most 6 8 1
+    ∷ most 7 15 3
+    ∷ most 8 16 0
+    ∷ most 9 17 0
+    ∷ most 10 20 1
+    ∷ most 11 23 0
+    ∷ most 12 26 2
+    ∷ most 13 29 0
+    ∷ most 14 38 0
+    ∷ []
+
+mosts-hold : map (λ m. inRanges (m .case) (tile (m .code) 0 0 false (m .unsettled))) mosts ≡ map (λ m. true) mosts
+unfolding mosts inRanges readings configurations tilingsOf columnsOf hasCentre
+mosts-hold = refl
+
+more-out : map (λ m. inRanges (m .case) (tile (m .code) 0 0 false (suc (m .unsettled)))) mosts ≡ map (λ m. false) mosts
+unfolding mosts inRanges readings configurations tilingsOf columnsOf hasCentre
+more-out = refl

@@ -1,3 +1,4 @@
 pub mod Bounds
+mod Controls
 pub mod Signs
 pub mod Table
