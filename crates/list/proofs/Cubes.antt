@@ -1,5 +1,5 @@
 -- A list's cubes and their choices, as the code reads them. Assumes nothing.
-use mathlib.Core.Path.{_≡_, ap, _∙_}
+use mathlib.Core.Path.{_≡_, sym, ap, _∙_}
 use mathlib.Core.Bool.{Bool, cond}
 use mathlib.Core.List.{List}
 use Prim.Native.Nat.{ℕ, _+_, _*_, _/_, _%_, _≤_, _<_}
@@ -14,26 +14,32 @@ use mir.ValLaws.{toZ-ofZ}
 use Rattle.cube.specs.declared.Cube.{Cube}
 use Rattle.reader.specs.declared.Step.{Step}
 use Rattle.reader.specs.declared.Step.the-variants as step
-use Rattle.reader.specs.Reader.{cubeAt, stepAt}
+use Rattle.reader.specs.Reader.{Standing, cube, part, end, standing, cubeAt, stepAt}
 use Rattle.tilings.specs.Plan.{Chosen}
 use Rattle.choice.specs.Choice.{choiceOf, unsettledIn}
 use Rattle.choice.proofs.Ranges.{unsettled-bound}
 use Rattle.list.specs.Lists.{choiceAt}
 
-module _ (xs : List Float) (i : ℕ) (h : i < length xs / 8) (r : Step) (e : r ≡ stepAt xs i) where
-  stands : r ≡ step.Cube (cubeAt xs i)
+module _ (xs : List Float) (i : ℕ) (h : i < length xs / 8) (r : Step) (e : standing r ≡ stepAt xs i) where
+  stands : standing r ≡ cube (cubeAt xs i)
   unfolding stepAt
   stands =
-      e ∙ ap (λ (b : Bool). cond b (step.Cube (cubeAt xs i)) (cond (eqb (length xs % 8) 0) step.End step.Part)) (lt-ltb i (length xs / 8) h)
+      e ∙ ap (λ (b : Bool). cond b (cube (cubeAt xs i)) (cond (eqb (length xs % 8) 0) end part)) (lt-ltb i (length xs / 8) h)
 
   pub read-cube : (q : Cube) → r ≡ step.Cube q → q ≡ cubeAt xs i
-  read-cube q f = let s = stands in cc
+  read-cube q f =
+      let s : cube q ≡ cube (cubeAt xs i) = sym (ap standing f) ∙ stands in
+      cc
 
   pub no-part : (q : Cube) → r ≡ step.Part → q ≡ cubeAt xs i
-  no-part q f = let s = stands in cc
+  no-part q f =
+      let s : part ≡ cube (cubeAt xs i) = sym (ap standing f) ∙ stands in
+      cc
 
   pub no-end : (q : Cube) → r ≡ step.End → q ≡ cubeAt xs i
-  no-end q f = let s = stands in cc
+  no-end q f =
+      let s : end ≡ cube (cubeAt xs i) = sym (ap standing f) ∙ stands in
+      cc
 
 -- the case, the configuration and the cube as they are read
 pub at-place : (xs : List Float) (ns : List ℤ) (i : ℕ) (q : Cube) → SFits w8 (getD ns (2 * i) (pos 0)) → SFits w8 (getD ns (2 * i + 1) (pos 0)) → q ≡ cubeAt xs i

@@ -1,5 +1,6 @@
 mod Controls
 mod Cubes
+mod Empties
 mod Firsts
 mod Outcomes
 mod Rows

@@ -46,18 +46,18 @@ module _ (xs : List Float) (ns : List ℤ) where
     unfolding resultOf
     tested b d e f = rw (sym e, sym f)
 
-    pub not-agreed : not agreed ≡ true → Promised (refusedAt 6 0) ys
+    pub not-agreed : (n : ℕ) → n ≡ 6 → not agreed ≡ true → Promised (refusedAt n 0) ys
     unfolding lengthsAgree
-    not-agreed e =
-        promised (refusedAt 6 0) ys
-        (tested false (leb (4 * cubes xs) (length ys)) (not-true (lengthsAgree xs ns) e) refl)
+    not-agreed n s e =
+        promised (refusedAt n 0) ys
+        (ap (λ (n : ℕ). refusedAt n 0) s ∙ tested false (leb (4 * cubes xs) (length ys)) (not-true (lengthsAgree xs ns) e) refl)
         refl
 
     module _ (passed : not agreed ≡ false) where
-      pub no-room : length ys < 4 * cubes xs → Promised (refusedAt 7 0) ys
+      pub no-room : (n : ℕ) → n ≡ 7 → length ys < 4 * cubes xs → Promised (refusedAt n 0) ys
       unfolding lengthsAgree
-      no-room h =
-          promised (refusedAt 7 0) ys (tested true false (not-false (lengthsAgree xs ns) passed) (lt-leb (4 * cubes xs) (length ys) h)) refl
+      no-room n s h =
+          promised (refusedAt n 0) ys (ap (λ (n : ℕ). refusedAt n 0) s ∙ tested true false (not-false (lengthsAgree xs ns) passed) (lt-leb (4 * cubes xs) (length ys) h)) refl
 
       module _ (room : 4 * cubes xs ≤ length ys) (o : Outcome) (e : result o ≡ firstFrom xs ns (cubes xs) 0) where
         first : firstFrom xs ns (cubes xs) 0 ≡ resultOf xs ns (length ys)

@@ -1,10 +1,12 @@
--- Document 01, 'A reviewer's tries' 4 and 5, and a list for each refusal of a list. Values are written as bits. Definitions only.
-use Prim.Native.Nat.{ℕ}
+-- Document 01, 'A reviewer's tries' 4 and 5, a list with each kind of row, a list for each refusal of a list, and lists of any length. Values are written as
+-- bits. Definitions only.
+use Prim.Native.Nat.{ℕ, zero, suc, _*_, _≤_}
 use mathlib.Core.Path.{_≡_}
 use mathlib.Core.List.{List, [], _∷_, _++_, map}
 use lib.IntN.{ℤ, pos, negsuc}
-use lib.ListN.{length}
+use lib.ListN.{length, drop, replicate}
 use lib.Ieee.{Float, binary32, ofBits}
+use Rattle.binary32.specs.Numbers.{plusZero}
 use Rattle.list.specs.Lists.{Result, done, refusedAt, resultOf, answersOf}
 
 pub record Try : Type 0 where
@@ -29,6 +31,18 @@ second = 0x3f800000 ∷ 0xc0000000 ∷ 0x3f800000 ∷ 0xc0000000 ∷ 0xbf800000 
 abbrev third : List ℕ
 third = 0x40400000 ∷ 0xbf800000 ∷ 0xbf800000 ∷ 0xbf800000 ∷ 0xbf800000 ∷ 0xbf800000 ∷ 0x40400000 ∷ 0xbf800000 ∷ []
 
+-- document 01, 'Program', 13/0: no tiling, sub-configuration 5
+abbrev untiled : List ℕ
+untiled = 0x3f800000 ∷ 0x40000000 ∷ 0x3f800000 ∷ 0x40000000 ∷ 0x3f800000 ∷ 0x40800000 ∷ 0x3f800000 ∷ 0x40800000 ∷ []
+
+-- as the Rust chooses (mc33's sample, line 1811), 13/1: no tiling, sub-configuration 37
+abbrev untiled1 : List ℕ
+untiled1 = 0xc0000000 ∷ 0xbf800000 ∷ 0xc0000000 ∷ 0xbf800000 ∷ 0xbf800000 ∷ 0xc0000000 ∷ 0xc0000000 ∷ 0xc0000000 ∷ []
+
+-- and line 216, 7/5: 7_3, row 5, column 2, with a centre
+abbrev centred : List ℕ
+centred = 0xc0400000 ∷ 0x40000000 ∷ 0xbf800000 ∷ 0xc0000000 ∷ 0x3f800000 ∷ 0xc0400000 ∷ 0x40400000 ∷ 0xbf800000 ∷ []
+
 -- c7 is NaN
 abbrev spoilt : List ℕ
 spoilt = 0xbf800000 ∷ 0xbf800000 ∷ 0xbf800000 ∷ 0xbf800000 ∷ 0xbf800000 ∷ 0xbf800000 ∷ 0xbf800000 ∷ 0x7fc00000 ∷ []
@@ -45,6 +59,8 @@ tries =
     try first case3 four done (4 ∷ 0 ∷ 0 ∷ 0 ∷ [])
     ∷ try (first ++ second) (case3 ++ case3) (four ++ four) done (4 ∷ 0 ∷ 0 ∷ 0 ∷ 3 ∷ 0 ∷ 0 ∷ 0 ∷ [])
     ∷ try (third ++ first) (pos 4 ∷ pos 0 ∷ pos 0 ∷ negsuc 0 ∷ []) (four ++ four ++ four) done (6 ∷ 0 ∷ 0 ∷ 6 ∷ 0 ∷ 0 ∷ 0 ∷ 0 ∷ four)
+    -- no tiling in either configuration; a row, a column and a centre
+    ∷ try (untiled ++ untiled1 ++ centred) (pos 13 ∷ pos 0 ∷ pos 13 ∷ pos 1 ∷ pos 7 ∷ pos 5 ∷ []) (four ++ four ++ four) done (255 ∷ 0 ∷ 5 ∷ 0 ∷ 255 ∷ 1 ∷ 37 ∷ 0 ∷ 13 ∷ 5 ∷ 2 ∷ 1 ∷ [])
     -- no cubes
     ∷ try [] [] four done four
     -- the second cube is refused, and the first of two that are
@@ -60,9 +76,20 @@ tries =
     ∷ try spoilt case3 [] (refusedAt 7 0) []
     ∷ []
 
+-- k cubes of zeros, and case 0 with configuration -1 for each
+abbrev pub zeros : ℕ → List Float
+zeros k = replicate (8 * k) plusZero
+
+abbrev pub empties : ℕ → List ℤ
+empties zero = []
+empties (suc k) = pos 0 ∷ negsuc 0 ∷ empties k
+
 abbrev values : Try → List Float
 values t = map (ofBits binary32) (t .corners)
 
 pub record ListTries : Type 0 where
   pub outcomes : map (λ t. resultOf (values t) (t .numbers) (length (t .answers))) tries ≡ map (λ t. t .says) tries
   pub answers : map (λ t. answersOf (values t) (t .numbers) (t .answers)) tries ≡ map (λ t. t .leaves) tries
+  -- however many cubes there are: empty ones, in as much room as they need or more
+  pub anyNumber : (k : ℕ) (ys : List ℕ) → 4 * k ≤ length ys
+      → (resultOf (zeros k) (empties k) (length ys) ≡ done) × (answersOf (zeros k) (empties k) ys ≡ replicate (4 * k) 0 ++ drop (4 * k) ys)

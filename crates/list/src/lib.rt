@@ -10,6 +10,7 @@ ghost use Rattle.list.specs.Lists.{choiceAt, bytesOf, done, firstFrom, r
 ghost use Rattle.list.specs.Results.{result, bytesIn};
 ghost use Rattle.list.specs.Tries.{ListTries};
 use cube::Cube;
+use cube::Refusal;
 use reader::Step;
 use tilings::Choice;
 
@@ -145,10 +146,10 @@ pub fn choose_list(corners: &[f32], numbers: &[i8], answers: &mut [u8]) -> Outco
     let n = corners.len() / 8;
     let agree = (corners.len() % 8 == 0) & (numbers.len() % 2 == 0) & (n == numbers.len() / 2);
     if !agree {
-        return Outcome::Refused(6, 0);
+        return Outcome::Refused(cube::number(Refusal::UnevenLists), 0);
     }
     if answers.len() < 4 * n {
-        return Outcome::Refused(7, 0);
+        return Outcome::Refused(cube::number(Refusal::NoRoom), 0);
     }
     match first_refused(corners, numbers, n) {
         Outcome::Done => {

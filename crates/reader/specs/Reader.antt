@@ -22,7 +22,18 @@ cubeAt xs i = record {
   c7 = getD xs (8 * i + 7) nan;
 }
 
--- that cube, and past the last whole one whether the list ends in a part of a cube
-unfoldable pub stepAt : List Float → ℕ → Step
-stepAt xs at =
-    cond (ltb at (length xs / 8)) (step.Cube (cubeAt xs at)) (cond (eqb (length xs % 8) 0) step.End step.Part)
+-- what stands at a place: a cube; past the last whole one a part of a cube, or the list's end
+pub data Standing : Type 0 where
+  cube : Cube → Standing
+  part : Standing
+  end : Standing
+
+-- the code's answers by these
+abbrev pub standing : Step → Standing
+standing (step.Cube q) = cube q
+standing step.Part = part
+standing step.End = end
+
+-- past the last whole cube a list whose length is no multiple of 8 has a part of a cube at every place
+unfoldable pub stepAt : List Float → ℕ → Standing
+stepAt xs at = cond (ltb at (length xs / 8)) (cube (cubeAt xs at)) (cond (eqb (length xs % 8) 0) end part)

@@ -3,7 +3,7 @@
 // answers for its place, and `moved` makes one at another place.
 // Public: `new`, `here`, `moved`, `read_at`.
 ghost use mathlib.Core.Path.{_≡_};
-ghost use Rattle.reader.specs.Reader.{stepAt};
+ghost use Rattle.reader.specs.Reader.{standing, stepAt};
 use cube::Cube;
 
 pub struct Reader<'a> {
@@ -21,7 +21,7 @@ pub enum Step {
 
 // What stands at a place of a list: `here` hands its list and place to this.
 fn step_at(corners: &[f32], at: usize) -> Step
-    ensures { λ r. ⌜ r ≡ stepAt (now (corners .entry)) at ⌝ }
+    ensures { λ r. ⌜ standing r ≡ stepAt (now (corners .entry)) at ⌝ }
 {
     let n = corners.len() / 8;
     if at < n {
@@ -50,7 +50,7 @@ pub fn new<'a>(corners: &'a [f32]) -> Reader<'a>
 }
 
 pub fn here<'a>(r: Reader<'a>) -> Step
-    ensures { λ s. ⌜ s ≡ stepAt (now (r .entry .corners)) (r .entry .at) ⌝ }
+    ensures { λ s. ⌜ standing s ≡ stepAt (now (r .entry .corners)) (r .entry .at) ⌝ }
 {
     step_at(r.corners, r.at)
 }
@@ -66,7 +66,7 @@ pub fn moved<'a>(r: Reader<'a>, at: usize) -> Reader<'a>
 
 // The way in for a caller with a plain list and a place.
 pub fn read_at(corners: &[f32], at: usize) -> Step
-    ensures { λ s. ⌜ s ≡ stepAt (now (corners .entry)) at ⌝ }
+    ensures { λ s. ⌜ standing s ≡ stepAt (now (corners .entry)) at ⌝ }
 {
     here(moved(new(corners), at))
 }

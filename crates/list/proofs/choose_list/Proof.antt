@@ -5,16 +5,22 @@ use borrow.Author.Needs.{needs}
 use Rattle.list.proofs.choose_list.Statement.{statement}
 use Rattle.list.proofs.choose_list.Tie as tie
 
+number-requires : tie.Need-number-requires
+number-requires c κs = search needs
+
 returns : tie.Need-returns
-returns c = not-agreed _ _ _ (c .if1 .taken)
+returns c = not-agreed _ _ _ _ (c .number .ensures) (c .before .if1 .taken)
 
 mul-if2 : tie.Need-mul-if2
 mul-if2 c = search needs
 
+number-requires-2 : tie.Need-number-requires-2
+number-requires-2 c κs = search needs
+
 returns-2 : tie.Need-returns-2
 returns-2 c =
-    let s = c .before .before .before .before .args in
-    no-room (s .corners .now) (s .numbers .now) (s .answers .now) (c .before .if1 .left) (omega arith)
+    let s = c .before .before .before .before .before .args in
+    no-room (s .corners .now) (s .numbers .now) (s .answers .now) (c .before .before .if1 .left) _ (c .number2 .ensures) (omega arith)
 
 first-refused-requires : tie.Need-first-refused-requires
 first-refused-requires c κs =
@@ -58,8 +64,10 @@ pub choose-list-spec : {M : Type 1} → statement M
 choose-list-spec =
     tie.close
     (tie.spec
+    number-requires
     returns
     mul-if2
+    number-requires-2
     returns-2
     first-refused-requires
     enum-told

@@ -1,0 +1,111 @@
+-- A list of any number of empty cubes is done, and its rows are zeros. Assumes nothing.
+use mathlib.Core.Path.{_≡_, refl, sym, ap, _∙_}
+use mathlib.Core.Bool.{Bool, true, cond, _&&_}
+use mathlib.Core.List.{List, [], _∷_, _++_}
+use Prim.Native.Nat.{ℕ, zero, suc, _+_, _*_, _/_, _%_, _≤_, _<_}
+use native.Mathlib.Omega.{arith}
+use lib.Dec.{eqb, leb}
+use lib.IntN.{ℤ, pos, negsuc}
+use lib.ListN.{length, getD, drop, replicate, length-replicate, getD-replicate, replicate-append-replicate}
+use lib.Ieee.{nan}
+use borrow.Author.Tests.{eq-eqb, le-leb}
+use Rattle.binary32.specs.Numbers.{plusZero}
+use Rattle.cube.specs.declared.Cube.{Cube}
+use Rattle.cube.specs.Corners.{corners, allFinite}
+use Rattle.tilings.specs.Tilings.{configurations}
+use Rattle.tilings.specs.Plan.{Chosen, empty, run}
+use Rattle.families.specs.Plans.{plans, planOf}
+use Rattle.choice.specs.Choice.{choiceOf, refusalOf}
+use Rattle.reader.specs.Reader.{cubeAt}
+use Rattle.list.specs.Lists.{cubes, lengthsAgree, choiceAt, Result, done, refusedAt, firstFrom, resultOf, bytesOf, rowsOf, answersBy, answersOf}
+use Rattle.list.specs.Tries.{zeros, empties}
+
+abbrev nought : Cube
+nought = record { c0 = plusZero; c1 = plusZero; c2 = plusZero; c3 = plusZero; c4 = plusZero; c5 = plusZero; c6 = plusZero; c7 = plusZero }
+
+nought-empty : choiceOf (pos 0) (negsuc 0) nought ≡ empty
+unfolding choiceOf configurations corners allFinite planOf plans run
+nought-empty = refl
+
+-- ---- the numbers
+numbers-length : (k : ℕ) → length (empties k) ≡ 2 * k
+numbers-length zero = refl
+numbers-length (suc k) =
+    let e = numbers-length k in
+    omega arith
+
+-- those of cube i
+numbers-at : (k i : ℕ) → i < k → (getD (empties k) (2 * i) (pos 0) ≡ pos 0) × (getD (empties k) (2 * i + 1) (pos 0) ≡ negsuc 0)
+numbers-at zero i h = absurd (omega arith)
+numbers-at (suc k) zero h = (refl, refl)
+numbers-at (suc k) (suc i) h =
+    let e : 2 * suc i ≡ suc (suc (2 * i)) = omega arith in
+    let f : 2 * suc i + 1 ≡ suc (suc (2 * i + 1)) = omega arith in
+    let r = numbers-at k i (omega arith) in
+    (ap (λ (n : ℕ). getD (empties (suc k)) n (pos 0)) e ∙ r .0, ap (λ (n : ℕ). getD (empties (suc k)) n (pos 0)) f ∙ r .1)
+
+module _ (k : ℕ) where
+  value : (j : ℕ) → j < 8 * k → getD (zeros k) j nan ≡ plusZero
+  value j h = getD-replicate (8 * k) j plusZero nan h
+
+  cube-at : (i : ℕ) → i < k → cubeAt (zeros k) i ≡ nought
+  unfolding cubeAt
+  cube-at i h =
+      rw
+      (value (8 * i) (omega arith), value (8 * i + 1) (omega arith), value (8 * i + 2) (omega arith), value (8 * i + 3) (omega arith), value (8 * i + 4) (omega arith), value (8 * i + 5) (omega arith), value (8 * i + 6) (omega arith), value (8 * i + 7) (omega arith))
+
+  choice-at : (i : ℕ) → i < k → choiceAt (zeros k) (empties k) i ≡ empty
+  unfolding choiceAt
+  choice-at i h = rw (numbers-at k i h .0, numbers-at k i h .1, cube-at i h) nought-empty
+
+  none-refused : (j i : ℕ) → i + j ≤ k → firstFrom (zeros k) (empties k) j i ≡ done
+  unfolding firstFrom refusalOf
+  none-refused zero i h = refl
+  none-refused (suc j) i h = rw (choice-at i (omega arith)) (none-refused j (suc i) (omega arith))
+
+  rows-zero : (j : ℕ) → j ≤ k → rowsOf (zeros k) (empties k) j ≡ replicate (4 * j) 0
+  unfolding rowsOf bytesOf
+  rows-zero zero h = refl
+  rows-zero (suc j) h =
+      let e : 4 * j + 4 ≡ 4 * suc j = omega arith in
+      ap (λ (s : Chosen). rowsOf (zeros k) (empties k) j ++ bytesOf s) (choice-at j (omega arith))
+      ∙ ap (λ (r : List ℕ). r ++ replicate 4 0) (rows-zero j (omega arith))
+      ∙ replicate-append-replicate (4 * j) 4 0
+      ∙ ap (λ (n : ℕ). replicate n 0) e
+
+  long : length (zeros k) ≡ 8 * k
+  long = length-replicate (8 * k) plusZero
+
+  many : cubes (zeros k) ≡ k
+  many =
+      let l = long in
+      omega arith
+
+  agreed : lengthsAgree (zeros k) (empties k) ≡ true
+  unfolding lengthsAgree
+  agreed =
+      let l = long in
+      let n = numbers-length k in
+      rw (eq-eqb (length (zeros k) % 8) 0 (omega arith), eq-eqb (length (empties k) % 2) 0 (omega arith), eq-eqb (cubes (zeros k)) (length (empties k) / 2) (omega arith))
+
+  module _ (ys : List ℕ) (room : 4 * k ≤ length ys) where
+    fits : leb (4 * cubes (zeros k)) (length ys) ≡ true
+    fits =
+        let m = many in
+        le-leb (4 * cubes (zeros k)) (length ys) (omega arith)
+
+    all-done : resultOf (zeros k) (empties k) (length ys) ≡ done
+    unfolding resultOf
+    all-done = rw (agreed, fits, many) (none-refused k 0 (omega arith))
+
+    all-zero : answersOf (zeros k) (empties k) ys ≡ replicate (4 * k) 0 ++ drop (4 * k) ys
+    unfolding answersOf
+    all-zero =
+        ap (λ (r : Result). answersBy r (rowsOf (zeros k) (empties k) (cubes (zeros k))) ys) all-done
+        ∙ ap (λ (n : ℕ). answersBy done (rowsOf (zeros k) (empties k) n) ys) many
+        ∙ ap (λ (rows : List ℕ). answersBy done rows ys) (rows-zero k (omega arith))
+        ∙ ap (λ (n : ℕ). replicate (4 * k) 0 ++ drop n ys) (length-replicate (4 * k) 0)
+
+pub any-number : (k : ℕ) (ys : List ℕ) → 4 * k ≤ length ys
+    → (resultOf (zeros k) (empties k) (length ys) ≡ done) × (answersOf (zeros k) (empties k) ys ≡ replicate (4 * k) 0 ++ drop (4 * k) ys)
+any-number k ys room = (all-done k ys room, all-zero k ys room)
