@@ -4,7 +4,7 @@
 //   f: `mc33_face`, and e: `mc33_edge`, of the number that stands for the case
 //   r: `mc33_root` of c0, and `mc33_root_bits` of its bits
 //   l VVVV NNNN BBBB: `mc33_list` of the first VVVV values and NNNN numbers of the cubes held, with BBBB answer
-//     bytes, which are 200 to 249 before
+//     bytes, each 200 before
 // After an empty line no cube is held. A line of less than 72 bytes without a call is printed as it is. Of an
 // answer its numbers are printed in their order, and behind a list's the answer bytes; for a value x there stands
 // 2 × x + 100, or 255 where that is no whole number from 0 to 254.
@@ -16,6 +16,9 @@ ghost use Prim.Native.Nat.{_+_, _<_, _≤_};
 ghost use lib.ListN.{length};
 use cube::Cube;
 use line::Line;
+
+// Answer bytes for 300 cubes, and for two rows more.
+const ROOM: usize = 1208;
 
 // A space and the number.
 fn print_number(n: u64) {
@@ -71,7 +74,7 @@ fn root(x: f32, bits: u64) {
     io::write_all(1, b"\n");
 }
 
-// The call of a line with this cube and these two numbers.
+// The call of a line with this cube and these two numbers. The bits of c0 begin 71 bytes before the line's end.
 fn call(line: &[u8], k: i8, c: i8, q: Cube)
     requires { ⌜ 72 ≤ length (now line) ⌝ }
 {
@@ -84,16 +87,7 @@ fn call(line: &[u8], k: i8, c: i8, q: Cube)
     }
 }
 
-fn fill(answers: &mut [u8]) {
-    let mut i = 0;
-    while i < answers.len() {
-        answers[i] = (200 + i % 50) as u8;
-        i += 1;
-    }
-}
-
 fn list(corners: &[f32], numbers: &[i8], answers: &mut [u8]) {
-    fill(answers);
     let r = mc33_c::mc33_list(corners, numbers, answers);
     io::write_all(1, b"l");
     print_number(r.refusal);
@@ -125,10 +119,16 @@ fn list_line(line: &[u8], corners: &[f32], numbers: &[i8]) {
     let v = four(line, 2);
     let n = four(line, 7);
     let b = four(line, 12);
-    let mut answers = [0u8; 1208];
-    if corners.len() < v || numbers.len() < n || 1208 < b {
+    if corners.len() < v {
         return;
     }
+    if numbers.len() < n {
+        return;
+    }
+    if ROOM < b {
+        return;
+    }
+    let mut answers = [200u8; ROOM];
     list(&corners[0..v], &numbers[0..n], &mut answers[0..b]);
 }
 

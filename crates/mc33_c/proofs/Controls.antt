@@ -12,28 +12,30 @@ use Rattle.list.specs.Lists.{done, refusedAt}
 use Rattle.mc33_c.specs.Answers.{choiceNumbers, faceNumbers, readingNumbers, edgeNumbers, outcomeNumbers}
 
 choices : map choiceNumbers
-    (empty ∷ noTiling 1 5 ∷ tiling 33 11 7 true (record { unsettled = 3 }) ∷ tiling 32 11 7 false (record { unsettled = 2 }) ∷ refused 2 ∷ [])
+    (empty ∷ noTiling 1 5 ∷ tiling 33 11 7 true (record { unsettled = 3 }) ∷ tiling 32 11 7 false (record { unsettled = 2 }) ∷ refused 2 ∷ refused 3 ∷ [])
     ≡ record { refusal = 0; code = 0; row = 0; column = 0; centre = 0; unsettled = 0 }
     ∷ record { refusal = 0; code = 255; row = 1; column = 5; centre = 0; unsettled = 0 }
     ∷ record { refusal = 0; code = 33; row = 11; column = 7; centre = 1; unsettled = 3 }
     ∷ record { refusal = 0; code = 32; row = 11; column = 7; centre = 0; unsettled = 2 }
     ∷ record { refusal = 2; code = 0; row = 0; column = 0; centre = 0; unsettled = 0 }
+    ∷ record { refusal = 3; code = 0; row = 0; column = 0; centre = 0; unsettled = 0 }
     ∷ []
 unfolding choiceNumbers
 choices = refl
 
-faces : map faceNumbers (Face.answer true ∷ Face.answer false ∷ Face.refused 4 ∷ [])
-    ≡ record { refusal = 0; answer = 1 } ∷ record { refusal = 0; answer = 0 } ∷ record { refusal = 4; answer = 0 } ∷ []
+faces : map faceNumbers (Face.answer true ∷ Face.answer false ∷ Face.refused 4 ∷ Face.refused 3 ∷ [])
+    ≡ record { refusal = 0; answer = 1 } ∷ record { refusal = 0; answer = 0 } ∷ record { refusal = 4; answer = 0 } ∷ record { refusal = 3; answer = 0 } ∷ []
 unfolding faceNumbers
 faces = refl
 
 edges : map edgeNumbers
-    (Edge.reading rising ∷ Edge.reading (beyond two) ∷ Edge.reading (crossed one two) ∷ Edge.reading blank ∷ Edge.refused 5 ∷ [])
+    (Edge.reading rising ∷ Edge.reading (beyond two) ∷ Edge.reading (crossed one two) ∷ Edge.reading blank ∷ Edge.refused 5 ∷ Edge.refused 3 ∷ [])
     ≡ record { refusal = 0; kind = 1; t = plusZero; product = plusZero }
     ∷ record { refusal = 0; kind = 2; t = two; product = plusZero }
     ∷ record { refusal = 0; kind = 3; t = one; product = two }
     ∷ record { refusal = 0; kind = 4; t = plusZero; product = plusZero }
     ∷ record { refusal = 5; kind = 0; t = plusZero; product = plusZero }
+    ∷ record { refusal = 3; kind = 0; t = plusZero; product = plusZero }
     ∷ []
 unfolding edgeNumbers readingNumbers
 edges = refl
