@@ -35,11 +35,11 @@ third = 0x40400000 ∷ 0xbf800000 ∷ 0xbf800000 ∷ 0xbf800000 ∷ 0xbf800000 �
 abbrev untiled : List ℕ
 untiled = 0x3f800000 ∷ 0x40000000 ∷ 0x3f800000 ∷ 0x40000000 ∷ 0x3f800000 ∷ 0x40800000 ∷ 0x3f800000 ∷ 0x40800000 ∷ []
 
--- as the Rust chooses (mc33's sample, line 1811), 13/1: no tiling, sub-configuration 37
+-- as the Rust chooses, 13/1: no tiling, sub-configuration 37
 abbrev untiled1 : List ℕ
 untiled1 = 0xc0000000 ∷ 0xbf800000 ∷ 0xc0000000 ∷ 0xbf800000 ∷ 0xbf800000 ∷ 0xc0000000 ∷ 0xc0000000 ∷ 0xc0000000 ∷ []
 
--- and line 216, 7/5: 7_3, row 5, column 2, with a centre
+-- likewise 7/5: 7_3, row 5, column 2, with a centre
 abbrev centred : List ℕ
 centred = 0xc0400000 ∷ 0x40000000 ∷ 0xbf800000 ∷ 0xc0000000 ∷ 0x3f800000 ∷ 0xc0400000 ∷ 0x40400000 ∷ 0xbf800000 ∷ []
 
