@@ -1,10 +1,12 @@
 -- What is kept is what the block left: its bytes, at most 81, moved to the front; and what was put is what it wrote. Assumes nothing.
 use mathlib.Core.Path.{_≡_, refl, sym, ap, _∙_, subst}
-use mathlib.Core.Bool.{Bool, true, false, true≢false, not}
+use mathlib.Core.Bool.{Bool, true, false, true≢false, not, cond}
 use mathlib.Core.List.{List}
+use mathlib.Core.Logic.{inl, inr}
 use Prim.Native.Nat.{ℕ, _-_, _≤_}
 use native.Mathlib.Nat.{sub-zero}
 use native.Mathlib.Omega.{arith}
+use borrow.Author.Tests.{not-true, not-false}
 use lib.ListN.{length, take, drop, length-drop}
 use lib.Seq.{length-take-le}
 use Rattle.put.specs.Placed.{placed}
@@ -13,7 +15,21 @@ use Rattle.line.proofs.Cuts.{drop-take}
 use Rattle.text.specs.Block.{Block, block, blockOf}
 use Rattle.text.proofs.Joins.{left-short}
 use Rattle.mc33.specs.declared.State.{State}
-use Rattle.mc33.specs.Kept.{Begins, Kept}
+use Rattle.mc33.specs.Kept.{empty, failure, OrFailed, Begins, Kept}
+
+pub failed-short : (r : State) → r ≡ failure → r .have ≤ 81
+failed-short r e = omega (arith, ap (λ (s : State). s .have) e)
+
+pub not-wrote : (wrote : Bool) (r next : State) → not wrote ≡ true → r ≡ failure → r ≡ cond wrote next failure
+not-wrote wrote r next h e = e ∙ ap (λ (b : Bool). cond b next failure) (sym (not-true wrote h))
+
+pub wrote-all : (wrote : Bool) (next : State) → not wrote ≡ false → next ≡ cond wrote next failure
+wrote-all wrote next h = ap (λ (b : Bool). cond b next failure) (sym (not-false wrote h))
+
+-- where the write told that it failed, so it is; else P holds of the next state
+pub after : (P : State → Type 0) (wrote : Bool) (r next : State) → r ≡ cond wrote next failure → next .have ≤ 81 → P next → (r .have ≤ 81) × OrFailed r (P r)
+after P true r next e h p = (subst (λ (s : State). s .have ≤ 81) (sym e) h, inr (subst P (sym e) p))
+after P false r next e h p = (failed-short r e, inl e)
 
 -- what was put stands at the front
 front : (out text : List ℕ) (put : ℕ) → put ≤ length out → take put out ≡ text → Begins out text
@@ -21,6 +37,10 @@ front out text put h e = ap (λ (n : ℕ). take n out) (ap length (sym e) ∙ le
 
 pub placed-begins : (xs ys text : List ℕ) → ys ≡ placed xs 0 text → Begins ys text
 placed-begins xs ys text e = ap (take (length text)) e ∙ placed-front xs text (length text) refl
+
+-- it is handed out as the bytes from 0 up to its end
+pub placed-handed : (xs ys text : List ℕ) (put : ℕ) → ys ≡ placed xs 0 text → put ≡ length text → take (put - 0) ys ≡ text
+placed-handed xs ys text put e h = ap (λ (n : ℕ). take n ys) (sub-zero put ∙ h) ∙ placed-begins xs ys text e
 
 -- the bytes up to n were lent as those from 0 to n
 module _ (r : State) (xs ys out : List ℕ) (first n left number put : ℕ) (over : Bool) (h : left ≤ n) (l : n ≤ length xs) (room : put ≤ length out)
@@ -32,22 +52,24 @@ module _ (r : State) (xs ys out : List ℕ) (first n left number put : ℕ) (ove
   text = front out (blockOf first (take n xs) .written) put room (ap (λ (x : Block). x .written) lent)
 
   -- the block was the end
-  pub kept-none : over ≡ true → r .going ≡ false → Kept r ys out (blockOf first (take n xs))
-  kept-none o g = record {
+  pub kept-none : over ≡ true → r ≡ empty false → Kept r ys out (blockOf first (take n xs))
+  kept-none o k = let g = ap (λ (s : State). s .going) k in record {
     text = text;
     goes = g ∙ ap not (sym o ∙ ap (λ (x : Block). x .over) lent);
+    well = ap (λ (s : State). s .failed) k;
     left = λ t. absurd (true≢false (sym t ∙ g));
     number = λ t. absurd (true≢false (sym t ∙ g));
   }
 
-  pub kept : over ≡ false → r .going ≡ true → r .number ≡ number → r .have ≡ n - left → ys ≡ placed xs 0 (take (n - left) (drop left xs))
+  pub kept : over ≡ false → r .going ≡ true → r .failed ≡ false → r .number ≡ number → r .have ≡ n - left → ys ≡ placed xs 0 (take (n - left) (drop left xs))
       → (r .have ≤ 81) × Kept r ys out (blockOf first (take n xs))
-  kept o g k a b =
+  kept o g w k a b =
       let j = ap (λ (x : Block). x .left) lent in (
         omega (arith, a, ap length j, left-short first (take n xs), length-drop left (take n xs), length-take-le n xs l),
         record {
           text = text;
           goes = g ∙ ap not (sym o ∙ ap (λ (x : Block). x .over) lent);
+          well = w;
           left = λ t.
               ap (λ (m : ℕ). take m ys) a
               ∙ ap (take (n - left)) b

@@ -1,2 +1,3 @@
 mod Coming
 mod Keeping
+mod Running

@@ -1,18 +1,41 @@
 -- What is kept between two blocks, and what a turn comes to. Definitions only.
-use Prim.Native.Nat.{ℕ, _≤_}
+use Prim.Native.Nat.{ℕ, _^_, _≤_, _<_}
 use mathlib.Core.Path.{_≡_}
-use mathlib.Core.Bool.{true, false, not}
-use mathlib.Core.List.{List, _++_}
+use mathlib.Core.Bool.{Bool, true, false, not}
+use mathlib.Core.List.{List, [], _∷_, _++_}
 use mathlib.Core.Logic.{_⊎_}
-use lib.IntN.{ℤ, pos}
+use lib.IntN.{ℤ, pos, negsuc}
 use lib.ListN.{length, take, drop}
 use Rattle.text.specs.Run.{atEnd}
 use Rattle.text.specs.Block.{Block, blockOf}
 use Rattle.mc33.specs.declared.State.{State}
 
--- it failed and stops, or P holds
+-- the lines are counted up to here
+abbrev pub mostLines : ℕ
+mostLines = 2 ^ 63
+
+-- nothing is kept, and line 1 is to come: how the program begins, and with false how it stops
+abbrev pub empty : Bool → State
+empty going = record { have = 0; number = 1; going = going; failed = false }
+
+-- how it stops where something failed
+abbrev pub failure : State
+failure = record { have = 0; number = 0; going = false; failed = true }
+
+-- the call failed, or P holds
 abbrev pub OrFailed : State → Type 0 → Type 0
-OrFailed r P = ((r .failed ≡ true) × (r .going ≡ false)) ⊎ P
+OrFailed r P = (r ≡ failure) ⊎ P
+
+-- line `number` cannot be counted; or it can, and then the write failed or P holds
+abbrev pub Counted : ℕ → State → Type 0 → Type 0
+Counted number r P = ((mostLines ≤ number) × (r ≡ failure)) ⊎ ((number < mostLines) × OrFailed r P)
+
+abbrev pub BelowZero : ℤ → Type 0
+BelowZero z = (k : ℕ) × (z ≡ negsuc k)
+
+-- room for a block, and for what it comes to
+abbrev pub Rooms : List ℕ → List ℕ → Type 0
+Rooms buf out = (length buf ≡ 65536) × (length out ≡ 65664)
 
 -- the text stands at the front of xs
 abbrev pub Begins : List ℕ → List ℕ → Type 0
@@ -23,20 +46,28 @@ Begins xs text = take (length text) xs ≡ text
 pub record Kept (r : State) (buf out : List ℕ) (x : Block) : Type 0 where
   pub text : Begins out (x .written)
   pub goes : r .going ≡ not (x .over)
+  pub well : r .failed ≡ false
   pub left : r .going ≡ true → take (r .have) buf ≡ x .left
   pub number : r .going ≡ true → r .number ≡ x .number
 
--- `came` is what a read put behind the part line of line `number`: there are some bytes, and the block is the two together; or there are none, out
--- begins with what the input's end comes to, and the program stops
+-- the input ends behind the part line of line `number`: the write failed, or out begins with what the input's end comes to, and the program stops
+abbrev pub Ended : ℕ → List ℕ → State → List ℕ → Type 0
+Ended number part r out = OrFailed r ((r ≡ empty false) × Begins out (atEnd number part))
+
+-- what a read put behind the part line of line `number`: none, and the input has ended; or some, and the block is the two together
 abbrev pub Came : List ℕ → ℕ → List ℕ → State → List ℕ → List ℕ → Type 0
-Came came number part r buf out =
-    ((1 ≤ length came) × Kept r buf out (blockOf number (part ++ came)))
-    ⊎ ((length came ≡ 0) × ((r .going ≡ false) × Begins out (atEnd number part)))
+Came [] number part r buf out = Ended number part r out
+Came (b ∷ bs) number part r buf out = Counted number r (Kept r buf out (blockOf number (part ++ (b ∷ bs))))
 
--- a read that told `got` left xs: got is no failure, and that many bytes came
+-- a read that told `got` left xs: got is below zero, and the program stops; or that many bytes came
 abbrev pub Told : ℤ → State → List ℕ → State → List ℕ → List ℕ → Type 0
-Told got state xs r buf out = (k : ℕ) × ((got ≡ pos k) × Came (take k (drop (state .have) xs)) (state .number) (take (state .have) xs) r buf out)
+Told got state xs r buf out =
+    (BelowZero got × (r ≡ failure))
+    ⊎ ((k : ℕ) × ((got ≡ pos k) × Came (take k (drop (state .have) xs)) (state .number) (take (state .have) xs) r buf out))
 
--- some bytes, or none, came behind the part line that xs held
+-- behind the part line that xs held the read failed, or these bytes came
+abbrev pub TurnedBy : List ℕ → State → List ℕ → State → List ℕ → List ℕ → Type 0
+TurnedBy came state xs r buf out = OrFailed r (Came came (state .number) (take (state .have) xs) r buf out)
+
 abbrev pub Turned : State → List ℕ → State → List ℕ → List ℕ → Type 0
-Turned state xs r buf out = (came : List ℕ) × Came came (state .number) (take (state .have) xs) r buf out
+Turned state xs r buf out = (came : List ℕ) × TurnedBy came state xs r buf out

@@ -1,17 +1,24 @@
 // The text program of document 01, 'Program': standard input to standard output. A turn reads a block behind
 // the part line that the last one left, answers the whole lines, writes the answers and moves the part line
 // to the front, so memory does not grow with the input. What is answered is `text`'s; here is what reads,
-// writes and keeps.
+// writes and keeps. Whatever goes to standard output is handed to `write_block` or `write_end`.
 ghost use mathlib.Core.Path.{_≡_};
-ghost use mathlib.Core.Bool.{true, false};
+ghost use mathlib.Core.Bool.{cond};
 ghost use Prim.Native.Nat.{_+_, _≤_};
 ghost use lib.ListN.{length, take};
 ghost use Rattle.text.specs.Run.{atEnd};
 ghost use Rattle.text.specs.Block.{blockOf};
-ghost use Rattle.mc33.specs.Kept.{OrFailed, Begins, Kept, Told, Turned};
+ghost use Rattle.mc33.specs.Kept.{mostLines, empty, failure, BelowZero, Rooms, Kept, Counted, Ended, Told, Turned};
+ghost use Rattle.mc33.specs.Runs.{Finished};
 use libc::STDERR_FILENO;
 use libc::STDIN_FILENO;
 use libc::STDOUT_FILENO;
+
+// The lines are counted up to here, 2^63.
+const MOST_LINES: u64 = 0x8000_0000_0000_0000;
+
+// A loop has to end: so many turns are made at most, 2^64 - 1.
+const MOST_TURNS: u64 = u64::MAX;
 
 // How many bytes of the part line are kept, its number, whether to go on, and whether a read, a write or the
 // count of the lines failed.
@@ -24,7 +31,7 @@ struct State {
 
 // Nothing is kept, and line 1 is to come: how it begins, and with false how it stops.
 fn empty(going: bool) -> State
-    ensures { λ r. ⌜ ((r .have ≡ 0) × (r .number ≡ 1)) × ((r .failed ≡ false) × (r .going ≡ going)) ⌝ }
+    ensures { λ r. ⌜ r ≡ empty going ⌝ }
 {
     State {
         have: 0,
@@ -34,10 +41,9 @@ fn empty(going: bool) -> State
     }
 }
 
-// Says what failed, and stops. `well` is what the call or the test told: only where it is false may this be called.
-fn failed(what: &[u8], well: bool) -> State
-    requires { ⌜ well ≡ false ⌝ }
-    ensures { λ r. ⌜ (r .have ≤ 81) × ((r .failed ≡ true) × (r .going ≡ false)) ⌝ }
+// Says what failed, and stops.
+fn failed(what: &[u8]) -> State
+    ensures { λ r. ⌜ r ≡ failure ⌝ }
 {
     io::write_all(STDERR_FILENO, b"mc33: ");
     io::write_all(STDERR_FILENO, what);
@@ -50,56 +56,91 @@ fn failed(what: &[u8], well: bool) -> State
     }
 }
 
+// No line has a number above 2^63.
+fn count_failed(number: u64) -> State
+    requires { ⌜ mostLines ≤ number ⌝ }
+    ensures { λ r. ⌜ r ≡ failure ⌝ }
+{
+    failed(b"counting the lines")
+}
+
+// The read told a number below zero.
+fn read_failed(got: isize) -> State
+    requires { ⌜ BelowZero got ⌝ }
+    ensures { λ r. ⌜ r ≡ failure ⌝ }
+{
+    failed(b"read")
+}
+
+// Goes by what the write told: on to the next state, or the write failed.
+fn after_write(wrote: bool, next: State) -> State
+    ensures { λ r. ⌜ r ≡ cond wrote next failure ⌝ }
+{
+    if !wrote {
+        return failed(b"write");
+    }
+    next
+}
+
+// Writes what the block of this input, from line `number` on, comes to.
+fn write_block(text: &[u8], number: u64, input: &[u8]) -> bool
+    requires { ⌜ now text ≡ (blockOf number (now input)) .written ⌝ }
+{
+    io::write_all(STDOUT_FILENO, text)
+}
+
+// Writes what the input's end comes to, in line `number`, of which `part` has come.
+fn write_end(text: &[u8], number: u64, part: &[u8]) -> bool
+    requires { ⌜ now text ≡ atEnd number (now part) ⌝ }
+{
+    io::write_all(STDOUT_FILENO, text)
+}
+
 // Answers the n bytes that there are: what is kept is what their block leaves.
 fn answer(number: u64, buf: &mut [u8], n: usize, out: &mut [u8]) -> State
     requires { ⌜ (n ≤ 65536) × ((n ≤ length (now buf)) × (n + 64 ≤ length (now out))) ⌝ }
     ensures have { λ r. ⌜ r .have ≤ 81 ⌝ }
-    ensures kept { λ r. ⌜ OrFailed r (Kept r (now (buf .exit)) (now (out .exit)) (blockOf number (take n (now (buf .entry))))) ⌝ }
+    ensures kept { λ r. ⌜ Counted number r (Kept r (now (buf .exit)) (now (out .exit)) (blockOf number (take n (now (buf .entry))))) ⌝ }
 {
-    if 0x8000_0000_0000_0000 <= number {
-        return failed(b"counting the lines", number < 0x8000_0000_0000_0000);
+    if MOST_LINES <= number {
+        return count_failed(number);
     }
     let done = text::answer_block(&buf[0..n], number, out);
     let put = done.put;
-    let wrote = io::write_all(STDOUT_FILENO, &out[0..put]);
-    if !wrote {
-        return failed(b"write", wrote);
-    }
+    let wrote = write_block(&out[0..put], number, &buf[0..n]);
     if done.over {
-        return empty(false);
+        return after_write(wrote, empty(false));
     }
     let left = done.left;
-    State {
+    let next = State {
         have: put::to_front(buf, left, n),
         number: done.number,
         going: true,
         failed: false,
-    }
+    };
+    after_write(wrote, next)
 }
 
 // The input's end: answers it and stops.
 fn finish(number: u64, part: &[u8], out: &mut [u8]) -> State
     requires { ⌜ 64 ≤ length (now out) ⌝ }
     ensures have { λ r. ⌜ r .have ≤ 81 ⌝ }
-    ensures ended { λ r. ⌜ OrFailed r ((r .going ≡ false) × Begins (now (out .exit)) (atEnd number (now (part .entry)))) ⌝ }
+    ensures ended { λ r. ⌜ Ended number (now (part .entry)) r (now (out .exit)) ⌝ }
 {
     let put = text::finish(part, number, out);
-    let ended = io::write_all(STDOUT_FILENO, &out[0..put]);
-    if !ended {
-        return failed(b"write", ended);
-    }
-    empty(false)
+    let wrote = write_end(&out[0..put], number, part);
+    after_write(wrote, empty(false))
 }
 
 // Goes by what the read told, -1 or how many bytes it put behind the part line. A part line leaves room to read,
 // so 0 is the input's end.
 fn after_read(got: isize, state: State, buf: &mut [u8], out: &mut [u8]) -> State
-    requires { ⌜ (state .have ≤ 81) × ((length (now buf) ≡ 65536) × (length (now out) ≡ 65664)) ⌝ }
+    requires { ⌜ (state .have ≤ 81) × Rooms (now buf) (now out) ⌝ }
     ensures have { λ r. ⌜ r .have ≤ 81 ⌝ }
-    ensures told { λ r. ⌜ OrFailed r (Told got state (now (buf .entry)) r (now (buf .exit)) (now (out .exit))) ⌝ }
+    ensures told { λ r. ⌜ Told got state (now (buf .entry)) r (now (buf .exit)) (now (out .exit)) ⌝ }
 {
     if got < 0 {
-        return failed(b"read", 0 <= got);
+        return read_failed(got);
     }
     let have = state.have;
     if got == 0 {
@@ -111,22 +152,31 @@ fn after_read(got: isize, state: State, buf: &mut [u8], out: &mut [u8]) -> State
 
 // Reads once, and answers what there is.
 fn turn(state: State, buf: &mut [u8], out: &mut [u8]) -> State
-    requires { ⌜ (state .have ≤ 81) × ((length (now buf) ≡ 65536) × (length (now out) ≡ 65664)) ⌝ }
+    requires { ⌜ (state .have ≤ 81) × Rooms (now buf) (now out) ⌝ }
     ensures have { λ r. ⌜ r .have ≤ 81 ⌝ }
-    ensures turned { λ r. ⌜ OrFailed r (Turned state (now (buf .entry)) r (now (buf .exit)) (now (out .exit))) ⌝ }
+    ensures turned { λ r. ⌜ Turned state (now (buf .entry)) r (now (buf .exit)) (now (out .exit)) ⌝ }
 {
     let have = state.have;
     let got = libc::read(STDIN_FILENO, &mut buf[have..]);
     after_read(got, state, buf, out)
 }
 
+// The turns, from the start on, until the program stops or all turns are used.
+fn run(buf: &mut [u8], out: &mut [u8]) -> State
+    requires { ⌜ Rooms (now buf) (now out) ⌝ }
+    ensures finished { λ r. ⌜ Finished r (now (buf .exit)) ⌝ }
+{
+    let mut state = empty(true);
+    let mut turns = MOST_TURNS;
+    while turns > 0 && state.going {
+        state = turn(state, buf, out);
+        turns -= 1;
+    }
+    state
+}
+
 fn main() {
     let mut buf = [0u8; 65536];
     let mut out = [0u8; 65664];
-    let mut state = empty(true);
-    let mut turns = u64::MAX;
-    while turns > 0 && state.going {
-        state = turn(state, &mut buf, &mut out);
-        turns -= 1;
-    }
+    run(&mut buf, &mut out);
 }

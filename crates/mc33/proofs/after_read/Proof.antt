@@ -1,21 +1,24 @@
 -- `mc33::after_read` goes by what the read told. Assumes nothing.
 use borrow.Author.Needs.{needs}
-use mathlib.Core.Logic.{inl}
 use native.Mathlib.Omega.{arith}
 use mir.Syntax.{w64}
 use mir.Val.{toZ, ofZ}
-use Rattle.mc33.proofs.Coming.{below, none-came, some-came}
+use Rattle.mc33.proofs.Keeping.{failed-short}
+use Rattle.mc33.proofs.Coming.{below, told-failed, none-came, some-came}
 use Rattle.mc33.proofs.after_read.Statement.{statement}
 use Rattle.mc33.proofs.after_read.Tie as tie
 
-slice-aggregate-failed : tie.Need-slice-aggregate-failed
-slice-aggregate-failed c = search needs
-
-failed-requires : tie.Need-failed-requires
-failed-requires c κs = below (toZ w64 (ofZ w64 (c .before .before .before .before .args .got))) (c .before .if1 .taken)
+read-failed-requires : tie.Need-read-failed-requires
+read-failed-requires c κs = below (toZ w64 (ofZ w64 (c .before .before .before .args .got))) (c .if1 .taken)
 
 returns : tie.Need-returns
-returns c = (c .failed .ensures .0, inl (c .failed .ensures .1))
+returns c =
+    let f = c .read-failed in
+    let s = c .before .before .before .before in
+    let a = s .args in (
+      failed-short _ (f .ensures),
+      told-failed (a .state) (f .result) (a .buf .now) (a .buf .now) (a .out .now) (a .got) (s .fits .got) (c .before .if1 .taken) (f .ensures),
+    )
 
 sub-finish : tie.Need-sub-finish
 sub-finish c = search needs
@@ -85,8 +88,7 @@ pub after-read-spec : {M : Type 1} → statement M
 after-read-spec =
     tie.close
     (tie.spec
-    slice-aggregate-failed
-    failed-requires
+    read-failed-requires
     returns
     sub-finish
     part-finish-start

@@ -1,22 +1,24 @@
--- `mc33::answer` keeps what its block leaves, at most 81 bytes, and stops where the block was the end or something failed. Assumes nothing.
+-- `mc33::answer` hands out what its block comes to and keeps what it leaves, at most 81 bytes; it stops where the block was the end or something failed. Assumes nothing.
 use borrow.Author.Needs.{needs}
-use borrow.Author.Tests.{not-true, le-ltb}
-use mathlib.Core.Path.{refl}
+use mathlib.Core.Path.{refl, ap, _∙_}
 use mathlib.Core.Bool.{true, false}
 use mathlib.Core.Logic.{inl, inr}
+use Prim.Native.Nat.{ℕ}
+use native.Mathlib.Nat.{sub-zero}
 use native.Mathlib.Omega.{arith}
-use Rattle.mc33.proofs.Keeping.{kept, kept-none}
+use lib.ListN.{take}
+use Rattle.text.specs.Block.{Block, blockOf}
+use Rattle.mc33.specs.declared.State.{State}
+use Rattle.mc33.specs.Kept.{Kept}
+use Rattle.mc33.proofs.Keeping.{failed-short, after, kept, kept-none}
 use Rattle.mc33.proofs.answer.Statement.{statement}
 use Rattle.mc33.proofs.answer.Tie as tie
 
-slice-aggregate-failed : tie.Need-slice-aggregate-failed
-slice-aggregate-failed c = search needs
-
-failed-requires : tie.Need-failed-requires
-failed-requires c κs = le-ltb _ _ (c .before .if1 .taken)
+count-failed-requires : tie.Need-count-failed-requires
+count-failed-requires c κs = search needs
 
 returns : tie.Need-returns
-returns c = (c .failed .ensures .0, inl (c .failed .ensures .1))
+returns c = (failed-short _ (c .count-failed .ensures), inl (omega arith, c .count-failed .ensures))
 
 sub-answer-block : tie.Need-sub-answer-block
 sub-answer-block c = search needs
@@ -30,23 +32,34 @@ part-answer-block-end c = search needs
 answer-block-requires : tie.Need-answer-block-requires
 answer-block-requires c κs = search needs
 
-sub-write-all : tie.Need-sub-write-all
-sub-write-all c = search needs
+sub-write-block : tie.Need-sub-write-block
+sub-write-block c = search needs
 
-part-write-all-start : tie.Need-part-write-all-start
-part-write-all-start c = search needs
+part-write-block-start : tie.Need-part-write-block-start
+part-write-block-start c = search needs
 
-part-write-all-end : tie.Need-part-write-all-end
-part-write-all-end c = search needs
+part-write-block-end : tie.Need-part-write-block-end
+part-write-block-end c = search needs
 
-write-all-requires : tie.Need-write-all-requires
-write-all-requires c κs = search needs
+sub-write-block-2 : tie.Need-sub-write-block-2
+sub-write-block-2 c = search needs
 
-slice-aggregate-failed-2 : tie.Need-slice-aggregate-failed-2
-slice-aggregate-failed-2 c = search needs
+part-write-block-start-2 : tie.Need-part-write-block-start-2
+part-write-block-start-2 c = search needs
 
-failed-requires-2 : tie.Need-failed-requires-2
-failed-requires-2 c κs = not-true _ (c .before .if2 .taken)
+part-write-block-end-2 : tie.Need-part-write-block-end-2
+part-write-block-end-2 c = search needs
+
+write-block-requires : tie.Need-write-block-requires
+write-block-requires c κs =
+    let x = c .before .before .before .before .before .before .answer-block in
+    ap (λ (n : ℕ). take n (x .last .1 .1 .0)) (sub-zero (x .result .put)) ∙ ap (λ (b : Block). b .written) (x .ensures .0)
+
+empty-requires : tie.Need-empty-requires
+empty-requires c κs = search needs
+
+after-write-requires : tie.Need-after-write-requires
+after-write-requires c κs = search needs
 
 same-length : tie.Need-same-length
 same-length c = search needs
@@ -55,10 +68,21 @@ same-length-2 : tie.Need-same-length-2
 same-length-2 c = search needs
 
 returns-2 : tie.Need-returns-2
-returns-2 c = (c .failed2 .ensures .0, inl (c .failed2 .ensures .1))
+returns-2 c =
+    let s = c .before .before .before .before .before .before .before .before .before .before .before .before .before .before .before .before .before in
+    let x = c .before .before .before .before .before .before .before .before .before .before .answer-block in
+    let e = c .before .empty in
+    let k = kept-none (e .result) (s .args .buf .now) (s .args .buf .now) (x .last .1 .1 .0) (s .args .number) (s .args .n) (x .result .left) (x .result .number) (x .result .put) (x .result .over)
+    (omega arith) (omega arith) (omega arith) (x .ensures .0) (c .before .before .if2 .taken) (e .ensures) in
+    let a = after (λ (r : State). Kept r (s .args .buf .now) (x .last .1 .1 .0) (blockOf (s .args .number) (take (s .args .n) (s .args .buf .now))))
+    (c .before .before .before .write-block .result) _ (e .result) (c .after-write .ensures) (omega (arith, ap (λ (s : State). s .have) (e .ensures))) k in
+    (a .0, inr (omega (arith, c .before .before .before .before .before .before .before .before .before .before .before .before .before .before .if1 .left), a .1))
 
-empty-requires : tie.Need-empty-requires
-empty-requires c κs = search needs
+to-front-requires : tie.Need-to-front-requires
+to-front-requires c κs = search needs
+
+after-write-requires-2 : tie.Need-after-write-requires-2
+after-write-requires-2 c κs = search needs
 
 same-length-3 : tie.Need-same-length-3
 same-length-3 c = search needs
@@ -68,59 +92,40 @@ same-length-4 c = search needs
 
 returns-3 : tie.Need-returns-3
 returns-3 c =
-    let b = c .before .before .before .before .before .before .before .before in
-    let s = b .before .before .before .before .before .before .before in
-    let x = b .answer-block in (
-      omega arith,
-      inr (kept-none (c .empty .result) (s .args .buf .now) (s .args .buf .now) (x .last .1 .1 .0) (s .args .number) (s .args .n) (x .result .left) (x .result .number) (x .result .put) (x .result .over)
-          (omega arith) (omega arith) (omega arith) (x .ensures .0) (c .before .if3 .taken) (c .empty .ensures .1 .1)),
-    )
-
-to-front-requires : tie.Need-to-front-requires
-to-front-requires c κs = search needs
-
-same-length-5 : tie.Need-same-length-5
-same-length-5 c = search needs
-
-same-length-6 : tie.Need-same-length-6
-same-length-6 c = search needs
-
-returns-4 : tie.Need-returns-4
-returns-4 c =
-    let f = c .before .before .to-front in
-    let b = c .before .before .before .before .before .before .before .before .before .before .before in
-    let s = b .before .before .before .before .before .before .before in
-    let x = b .answer-block in
-    let k = kept (record { have = f .result; number = x .result .number; going = true; failed = false })
-    (s .args .buf .now) (f .last .0) (x .last .1 .1 .0) (s .args .number) (s .args .n) (x .result .left) (x .result .number) (x .result .put) (x .result .over)
-    (omega arith) (omega arith) (omega arith) (x .ensures .0) (c .before .before .before .before .if3 .left) refl refl (f .ensures .0) (f .ensures .1) in
-    (k .0, inr (k .1))
+    let s = c .before .before .before .before .before .before .before .before .before .before .before .before .before .before .before .before .before .before .before .before in
+    let x = c .before .before .before .before .before .before .before .before .before .before .before .before .before .answer-block in
+    let f = c .before .before .before .to-front in
+    let next : State = record { have = f .result; number = x .result .number; going = true; failed = false } in
+    let k = kept next (s .args .buf .now) (f .last .0) (x .last .1 .1 .0) (s .args .number) (s .args .n) (x .result .left) (x .result .number) (x .result .put) (x .result .over)
+    (omega arith) (omega arith) (omega arith) (x .ensures .0) (c .before .before .before .before .before .if2 .left) refl refl refl (f .ensures .0) (f .ensures .1) in
+    let a = after (λ (r : State). Kept r (f .last .0) (x .last .1 .1 .0) (blockOf (s .args .number) (take (s .args .n) (s .args .buf .now))))
+    (c .before .before .before .before .before .before .write-block .result) _ next (c .after-write2 .ensures) (k .0) (k .1) in
+    (a .0, inr (omega (arith, c .before .before .before .before .before .before .before .before .before .before .before .before .before .before .before .before .before .if1 .left), a .1))
 
 pub answer-spec : {M : Type 1} → statement M
 answer-spec =
     tie.close
     (tie.spec
-    slice-aggregate-failed
-    failed-requires
+    count-failed-requires
     returns
     sub-answer-block
     part-answer-block-start
     part-answer-block-end
     answer-block-requires
-    sub-write-all
-    part-write-all-start
-    part-write-all-end
-    write-all-requires
-    slice-aggregate-failed-2
-    failed-requires-2
+    sub-write-block
+    part-write-block-start
+    part-write-block-end
+    sub-write-block-2
+    part-write-block-start-2
+    part-write-block-end-2
+    write-block-requires
+    empty-requires
+    after-write-requires
     same-length
     same-length-2
     returns-2
-    empty-requires
+    to-front-requires
+    after-write-requires-2
     same-length-3
     same-length-4
-    returns-3
-    to-front-requires
-    same-length-5
-    same-length-6
-    returns-4)
+    returns-3)

@@ -1,63 +1,56 @@
--- `mc33::finish` puts what the input's end comes to at the front, and stops. Assumes nothing.
+-- `mc33::finish` hands out what the input's end comes to, and stops. Assumes nothing.
 use borrow.Author.Needs.{needs}
-use borrow.Author.Tests.{not-true}
-use mathlib.Core.Logic.{inl, inr}
+use mathlib.Core.Path.{_≡_, ap}
+use mathlib.Core.Bool.{false}
 use native.Mathlib.Omega.{arith}
-use Rattle.mc33.proofs.Keeping.{placed-begins}
+use Rattle.text.specs.Run.{atEnd}
+use Rattle.mc33.specs.declared.State.{State}
+use Rattle.mc33.specs.Kept.{empty, Begins}
+use Rattle.mc33.proofs.Keeping.{after, placed-begins, placed-handed}
 use Rattle.mc33.proofs.finish.Statement.{statement}
 use Rattle.mc33.proofs.finish.Tie as tie
 
 finish-requires : tie.Need-finish-requires
 finish-requires c κs = search needs
 
-sub-write-all : tie.Need-sub-write-all
-sub-write-all c = search needs
+sub-write-end : tie.Need-sub-write-end
+sub-write-end c = search needs
 
-part-write-all-start : tie.Need-part-write-all-start
-part-write-all-start c = search needs
+part-write-end-start : tie.Need-part-write-end-start
+part-write-end-start c = search needs
 
-part-write-all-end : tie.Need-part-write-all-end
-part-write-all-end c = search needs
+part-write-end-end : tie.Need-part-write-end-end
+part-write-end-end c = search needs
 
-write-all-requires : tie.Need-write-all-requires
-write-all-requires c κs = search needs
+write-end-requires : tie.Need-write-end-requires
+write-end-requires c κs = let f = c .before .before .before .before .finish in placed-handed _ _ _ _ (f .ensures .1 .0) (f .ensures .0 .0)
 
-slice-aggregate-failed : tie.Need-slice-aggregate-failed
-slice-aggregate-failed c = search needs
+empty-requires : tie.Need-empty-requires
+empty-requires c κs = search needs
 
-failed-requires : tie.Need-failed-requires
-failed-requires c κs = not-true _ (c .before .if1 .taken)
+after-write-requires : tie.Need-after-write-requires
+after-write-requires c κs = search needs
 
 same-length : tie.Need-same-length
 same-length c = search needs
 
 returns : tie.Need-returns
-returns c = (c .failed .ensures .0, inl (c .failed .ensures .1))
-
-empty-requires : tie.Need-empty-requires
-empty-requires c κs = search needs
-
-same-length-2 : tie.Need-same-length-2
-same-length-2 c = search needs
-
-returns-2 : tie.Need-returns-2
-returns-2 c =
+returns c =
     let f = c .before .before .before .before .before .before .before .finish in
-    (omega arith, inr (c .empty .ensures .1 .1, placed-begins _ _ _ (f .ensures .1 .0)))
+    let s = c .before .before .before .before .before .before .before .before .before .before .before in
+    after (λ (r : State). (r ≡ empty false) × Begins (f .last .1 .1 .0) (atEnd (s .args .number) (s .args .part .now))) (c .before .before .write-end .result) _ (c .before .empty .result)
+    (c .after-write .ensures) (omega (arith, ap (λ (s : State). s .have) (c .before .empty .ensures))) (c .before .empty .ensures, placed-begins _ _ _ (f .ensures .1 .0))
 
 pub finish-spec : {M : Type 1} → statement M
 finish-spec =
     tie.close
     (tie.spec
     finish-requires
-    sub-write-all
-    part-write-all-start
-    part-write-all-end
-    write-all-requires
-    slice-aggregate-failed
-    failed-requires
-    same-length
-    returns
+    sub-write-end
+    part-write-end-start
+    part-write-end-end
+    write-end-requires
     empty-requires
-    same-length-2
-    returns-2)
+    after-write-requires
+    same-length
+    returns)
