@@ -1,14 +1,19 @@
 #!/usr/bin/env python3
-"""Runs the text program on the tests of crates/mc33_inputs/stdin.
+"""Runs the text program on the tests of crates/mc33_inputs/stdin, or on an input of many blocks.
 
 usage: text.py BINARY [FILE]
+       text.py BINARY --blocks [FOLDER]
 
-FILE, if not that one, has a test a line: input, ` => `, output, with the escapes that its head names;
+FILE, if not crates/mc33_inputs/stdin, has a test a line: input, ` => `, output, with the escapes that its head names;
 lines that begin with `#` and empty lines are none. BINARY gets each input through a pipe at once, through
 a pipe a byte at a time, and from a file. It must write the output and nothing on standard error, and end
 with status 0. Then a read and a write are made to fail, which must give a message on standard error.
 Prints what differs, and how many inputs and runs there were and how many of the runs differ; ends with
 status 1 if any does.
+
+With --blocks the input is made of the cubes of FOLDER's stdin, crates/mc33 if there is none, and the output
+of their answers in its stdout: all of them again and again, until the input fills 300 of the program's
+blocks. BINARY gets it through a pipe and from a file.
 """
 import array
 import fcntl
@@ -19,7 +24,10 @@ import tempfile
 import termios
 import time
 
-TESTS = os.path.join(os.path.dirname(os.path.abspath(__file__)), "..", "crates", "mc33_inputs", "stdin")
+CRATES = os.path.join(os.path.dirname(os.path.abspath(__file__)), "..", "crates")
+TESTS = os.path.join(CRATES, "mc33_inputs", "stdin")
+BLOCK = 65536
+BLOCKS = 300
 SECONDS = 60
 CORNERS = b" 3f800000 bf800000 3f800000 bf800000 bf800000 bf800000 bf800000 bf800000"
 ESCAPES = {
@@ -142,10 +150,47 @@ def fails_well(binary, name, redirections, given):
     return good
 
 
+def whole_lines(path):
+    """The lines that end, each with its newline."""
+    with open(path, "rb") as file:
+        return [line + b"\n" for line in file.read().split(b"\n")[:-1]]
+
+
+def answered(folder):
+    """The names lines, and the cubes and answers in order, up to the first line that is refused."""
+    given, said = (whole_lines(os.path.join(folder, name)) for name in ("stdin", "stdout"))
+    pairs = [pair for pair in zip(given, said) if not pair[1].startswith(b"refused")]
+    return pairs[0], pairs[1:]
+
+
+def first_difference(one, other):
+    """The line in which two outputs differ, counted from 1."""
+    at = next((i for i, (a, b) in enumerate(zip(one, other)) if a != b), min(len(one), len(other)))
+    return one.count(b"\n", 0, at) + 1
+
+
+def run_blocks(binary, folder):
+    """Whether an input of many blocks gives what it should, both ways."""
+    names, cubes = answered(folder)
+    times = -(-BLOCKS * BLOCK // sum(len(cube) for cube, _ in cubes))
+    given, expected = (names[k] + b"".join(pair[k] for pair in cubes) * times for k in (0, 1))
+    differ = 0
+    for run in (at_once, from_file):
+        child = run(binary, given)
+        if (child.returncode, child.stdout, child.stderr) != (0, expected, b""):
+            differ += 1
+            print(f"{run.__name__}: {said(child)}; differs in line {first_difference(child.stdout, expected)}")
+    lines = expected.count(b"\n")
+    print(f"{lines} lines, {len(given)} bytes in, {len(expected)} bytes out, 2 runs, {differ} differ")
+    return differ == 0
+
+
 def main(words):
-    if len(words) not in (1, 2):
+    if len(words) not in (1, 2, 3) or len(words) == 3 and words[1] != "--blocks":
         sys.exit(__doc__)
     binary = os.path.abspath(words[0])
+    if words[1:2] == ["--blocks"]:
+        return 0 if run_blocks(binary, words[2] if len(words) == 3 else os.path.join(CRATES, "mc33")) else 1
     inputs = runs = differ = 0
     for test in tests(words[1] if len(words) == 2 else TESTS):
         more, wrong = run_test(binary, *test)

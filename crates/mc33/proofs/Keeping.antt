@@ -38,9 +38,16 @@ front out text put h e = ap (λ (n : ℕ). take n out) (ap length (sym e) ∙ le
 pub placed-begins : (xs ys text : List ℕ) → ys ≡ placed xs 0 text → Begins ys text
 placed-begins xs ys text e = ap (take (length text)) e ∙ placed-front xs text (length text) refl
 
--- it is handed out as the bytes from 0 up to its end
-pub placed-handed : (xs ys text : List ℕ) (put : ℕ) → ys ≡ placed xs 0 text → put ≡ length text → take (put - 0) ys ≡ text
-placed-handed xs ys text put e h = ap (λ (n : ℕ). take n ys) (sub-zero put ∙ h) ∙ placed-begins xs ys text e
+-- the bytes up to `put` are lent as those from 0 to put
+lent-front : (out text : List ℕ) (put : ℕ) → take put out ≡ text → take (put - 0) out ≡ text
+lent-front out text put e = ap (λ (n : ℕ). take n out) (sub-zero put) ∙ e
+
+pub block-lent : (out input left : List ℕ) (first number put : ℕ) (over : Bool) → block (take put out) left number over ≡ blockOf first input
+    → take (put - 0) out ≡ blockOf first input .written
+block-lent out input left first number put over e = lent-front out (blockOf first input .written) put (ap (λ (x : Block). x .written) e)
+
+pub placed-lent : (xs ys text : List ℕ) (put : ℕ) → ys ≡ placed xs 0 text → put ≡ length text → take (put - 0) ys ≡ text
+placed-lent xs ys text put e h = lent-front ys text put (ap (λ (n : ℕ). take n ys) h ∙ placed-begins xs ys text e)
 
 -- the bytes up to n were lent as those from 0 to n
 module _ (r : State) (xs ys out : List ℕ) (first n left number put : ℕ) (over : Bool) (h : left ≤ n) (l : n ≤ length xs) (room : put ≤ length out)

@@ -10,7 +10,7 @@ use lib.ListN.{take}
 use Rattle.text.specs.Block.{Block, blockOf}
 use Rattle.mc33.specs.declared.State.{State}
 use Rattle.mc33.specs.Kept.{Kept}
-use Rattle.mc33.proofs.Keeping.{failed-short, after, kept, kept-none}
+use Rattle.mc33.proofs.Keeping.{failed-short, after, block-lent, kept, kept-none}
 use Rattle.mc33.proofs.answer.Statement.{statement}
 use Rattle.mc33.proofs.answer.Tie as tie
 
@@ -52,8 +52,9 @@ part-write-block-end-2 c = search needs
 
 write-block-requires : tie.Need-write-block-requires
 write-block-requires c κs =
-    let x = c .before .before .before .before .before .before .answer-block in
-    ap (λ (n : ℕ). take n (x .last .1 .1 .0)) (sub-zero (x .result .put)) ∙ ap (λ (b : Block). b .written) (x .ensures .0)
+    let a : tie.After-answer-block = search in
+    let x = a .answer-block in
+    block-lent (x .last .1 .1 .0) _ _ _ _ (x .result .put) _ (x .ensures .0)
 
 empty-requires : tie.Need-empty-requires
 empty-requires c κs = search needs

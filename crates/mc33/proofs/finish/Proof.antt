@@ -6,7 +6,7 @@ use native.Mathlib.Omega.{arith}
 use Rattle.text.specs.Run.{atEnd}
 use Rattle.mc33.specs.declared.State.{State}
 use Rattle.mc33.specs.Kept.{empty, Begins}
-use Rattle.mc33.proofs.Keeping.{after, placed-begins, placed-handed}
+use Rattle.mc33.proofs.Keeping.{after, placed-begins, placed-lent}
 use Rattle.mc33.proofs.finish.Statement.{statement}
 use Rattle.mc33.proofs.finish.Tie as tie
 
@@ -23,7 +23,7 @@ part-write-end-end : tie.Need-part-write-end-end
 part-write-end-end c = search needs
 
 write-end-requires : tie.Need-write-end-requires
-write-end-requires c κs = let f = c .before .before .before .before .finish in placed-handed _ _ _ _ (f .ensures .1 .0) (f .ensures .0 .0)
+write-end-requires c κs = let f = c .before .before .before .before .finish in placed-lent _ _ _ _ (f .ensures .1 .0) (f .ensures .0 .0)
 
 empty-requires : tie.Need-empty-requires
 empty-requires c κs = search needs
