@@ -1,18 +1,52 @@
 -- `mc33::answer` hands out what its block comes to and keeps what it leaves, at most 81 bytes; it stops where the block was the end or something failed. Assumes nothing.
 use borrow.Author.Needs.{needs}
-use mathlib.Core.Path.{refl, ap, _∙_}
+use mathlib.Core.Path.{_≡_, refl, ap}
 use mathlib.Core.Bool.{true, false}
+use mathlib.Core.List.{List}
 use mathlib.Core.Logic.{inl, inr}
-use Prim.Native.Nat.{ℕ}
-use native.Mathlib.Nat.{sub-zero}
+use Prim.Native.Nat.{ℕ, _-_, _≤_, _<_}
 use native.Mathlib.Omega.{arith}
-use lib.ListN.{take}
-use Rattle.text.specs.Block.{Block, blockOf}
+use lib.ListN.{take, drop}
+use Rattle.put.specs.Placed.{placed}
+use Rattle.text.specs.Block.{blockOf}
 use Rattle.mc33.specs.declared.State.{State}
-use Rattle.mc33.specs.Kept.{Kept}
+use Rattle.mc33.specs.Kept.{mostLines, empty, Kept}
 use Rattle.mc33.proofs.Keeping.{failed-short, after, block-lent, kept, kept-none}
 use Rattle.mc33.proofs.answer.Statement.{statement}
 use Rattle.mc33.proofs.answer.Tie as tie
+
+-- from where the block is answered
+abbrev start : tie.After-answer-block → tie.Start
+start b = b .before .before .before .before .before .before .before
+
+abbrev text : tie.After-answer-block → List ℕ
+text b = b .answer-block .last .1 .1 .0
+
+abbrev Keeps : tie.After-answer-block → List ℕ → State → Type 0
+Keeps b buf r = let a = start b .args in Kept r buf (text b) (blockOf (a .number) (take (a .n) (a .buf .now)))
+
+counted : (b : tie.After-answer-block) → start b .args .number < mostLines
+counted b = omega arith
+
+handed : (b : tie.After-answer-block) → take (b .answer-block .result .put - 0) (text b) ≡ blockOf (start b .args .number) (take (start b .args .n - 0) (start b .args .buf .now)) .written
+handed b = block-lent (text b) _ _ _ _ (b .answer-block .result .put) _ (b .answer-block .ensures .0)
+
+stops : (b : tie.After-answer-block) (r : State) → b .answer-block .result .over ≡ true → r ≡ empty false → (r .have ≤ 81) × Keeps b (start b .args .buf .now) r
+stops b r o e =
+    let a = start b .args in
+    let x = b .answer-block .result in (
+      omega (arith, ap (λ (s : State). s .have) e),
+      kept-none r (a .buf .now) (a .buf .now) (text b) (a .number) (a .n) (x .left) (x .number) (x .put) (x .over) (omega arith) (omega arith) (omega arith) (b .answer-block .ensures .0) o e,
+    )
+
+goes-on : (b : tie.After-answer-block) (r : State) (buf : List ℕ) → b .answer-block .result .over ≡ false → r .going ≡ true → r .failed ≡ false
+    → r .number ≡ b .answer-block .result .number → r .have ≡ start b .args .n - b .answer-block .result .left
+    → buf ≡ placed (start b .args .buf .now) 0 (take (start b .args .n - b .answer-block .result .left) (drop (b .answer-block .result .left) (start b .args .buf .now)))
+    → (r .have ≤ 81) × Keeps b buf r
+goes-on b r buf =
+    let a = start b .args in
+    let x = b .answer-block .result in
+    kept r (a .buf .now) buf (text b) (a .number) (a .n) (x .left) (x .number) (x .put) (x .over) (omega arith) (omega arith) (omega arith) (b .answer-block .ensures .0)
 
 count-failed-requires : tie.Need-count-failed-requires
 count-failed-requires c κs = search needs
@@ -51,10 +85,7 @@ part-write-block-end-2 : tie.Need-part-write-block-end-2
 part-write-block-end-2 c = search needs
 
 write-block-requires : tie.Need-write-block-requires
-write-block-requires c κs =
-    let a : tie.After-answer-block = search in
-    let x = a .answer-block in
-    block-lent (x .last .1 .1 .0) _ _ _ _ (x .result .put) _ (x .ensures .0)
+write-block-requires c κs = let b : tie.After-answer-block = search in handed b
 
 empty-requires : tie.Need-empty-requires
 empty-requires c κs = search needs
@@ -70,14 +101,12 @@ same-length-2 c = search needs
 
 returns-2 : tie.Need-returns-2
 returns-2 c =
-    let s = c .before .before .before .before .before .before .before .before .before .before .before .before .before .before .before .before .before in
-    let x = c .before .before .before .before .before .before .before .before .before .before .answer-block in
+    let b : tie.After-answer-block = search in
+    let w : tie.After-write-block = search in
     let e = c .before .empty in
-    let k = kept-none (e .result) (s .args .buf .now) (s .args .buf .now) (x .last .1 .1 .0) (s .args .number) (s .args .n) (x .result .left) (x .result .number) (x .result .put) (x .result .over)
-    (omega arith) (omega arith) (omega arith) (x .ensures .0) (c .before .before .if2 .taken) (e .ensures) in
-    let a = after (λ (r : State). Kept r (s .args .buf .now) (x .last .1 .1 .0) (blockOf (s .args .number) (take (s .args .n) (s .args .buf .now))))
-    (c .before .before .before .write-block .result) _ (e .result) (c .after-write .ensures) (omega (arith, ap (λ (s : State). s .have) (e .ensures))) k in
-    (a .0, inr (omega (arith, c .before .before .before .before .before .before .before .before .before .before .before .before .before .before .if1 .left), a .1))
+    let k = stops b (e .result) (c .before .before .if2 .taken) (e .ensures) in
+    let a = after (Keeps b (start b .args .buf .now)) (w .write-block .result) _ (e .result) (c .after-write .ensures) (k .0) (k .1) in
+    (a .0, inr (counted b, a .1))
 
 to-front-requires : tie.Need-to-front-requires
 to-front-requires c κs = search needs
@@ -93,15 +122,14 @@ same-length-4 c = search needs
 
 returns-3 : tie.Need-returns-3
 returns-3 c =
-    let s = c .before .before .before .before .before .before .before .before .before .before .before .before .before .before .before .before .before .before .before .before in
-    let x = c .before .before .before .before .before .before .before .before .before .before .before .before .before .answer-block in
+    let b : tie.After-answer-block = search in
+    let w : tie.After-write-block = search in
+    let t : tie.Else2 = search in
     let f = c .before .before .before .to-front in
-    let next : State = record { have = f .result; number = x .result .number; going = true; failed = false } in
-    let k = kept next (s .args .buf .now) (f .last .0) (x .last .1 .1 .0) (s .args .number) (s .args .n) (x .result .left) (x .result .number) (x .result .put) (x .result .over)
-    (omega arith) (omega arith) (omega arith) (x .ensures .0) (c .before .before .before .before .before .if2 .left) refl refl refl (f .ensures .0) (f .ensures .1) in
-    let a = after (λ (r : State). Kept r (f .last .0) (x .last .1 .1 .0) (blockOf (s .args .number) (take (s .args .n) (s .args .buf .now))))
-    (c .before .before .before .before .before .before .write-block .result) _ next (c .after-write2 .ensures) (k .0) (k .1) in
-    (a .0, inr (omega (arith, c .before .before .before .before .before .before .before .before .before .before .before .before .before .before .before .before .before .if1 .left), a .1))
+    let next : State = record { have = f .result; number = b .answer-block .result .number; going = true; failed = false } in
+    let k = goes-on b next (f .last .0) (t .if2 .left) refl refl refl (f .ensures .0) (f .ensures .1) in
+    let a = after (Keeps b (f .last .0)) (w .write-block .result) _ next (c .after-write2 .ensures) (k .0) (k .1) in
+    (a .0, inr (counted b, a .1))
 
 pub answer-spec : {M : Type 1} → statement M
 answer-spec =
