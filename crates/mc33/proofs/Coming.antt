@@ -16,10 +16,11 @@ use mir.Val.{SFits, toZ, ofZ}
 use mir.Facts.{toZ-ofZ}
 use Rattle.io.specs.Counts.{clamped}
 use Rattle.text.specs.Block.{blockOf}
+use Rattle.mc33.specs.declared.Failure.{Failure}
 use Rattle.mc33.specs.declared.State.{State}
 use Rattle.mc33.specs.Kept.{failure, BelowZero, Kept, Counted, Ended, Came, Told, Turned}
 
-pub below : (z : ℤ) → ltZ z (pos 0) ≡ true → BelowZero z
+below : (z : ℤ) → ltZ z (pos 0) ≡ true → BelowZero z
 below (pos k) h = absurd (true≢false (sym h ∙ le-ltb k 0 (omega arith)))
 below (negsuc k) h = (k, refl)
 
@@ -29,7 +30,7 @@ take-there k n xs e =
     ap (λ (m : ℕ). take m xs) e ∙ ap (take (length (take k xs))) (sym (take-append-drop k xs)) ∙ take-append-seam (take k xs) (drop k xs)
 
 module _ (state r : State) (xs buf out : List ℕ) where
-  pub told-failed : (z : ℤ) → SFits w64 z → ltZ (toZ w64 (ofZ w64 z)) (pos 0) ≡ true → r ≡ failure → Told z state xs r buf out
+  pub told-failed : (z : ℤ) → SFits w64 z → ltZ (toZ w64 (ofZ w64 z)) (pos 0) ≡ true → r ≡ failure Failure.Read → Told z state xs r buf out
   told-failed z f h e = inl (subst BelowZero (toZ-ofZ f) (below (toZ w64 (ofZ w64 z)) h), e)
 
   -- the part line was lent as the bytes from 0 on

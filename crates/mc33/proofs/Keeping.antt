@@ -14,22 +14,23 @@ use Rattle.put.proofs.Placed.{placed-front}
 use Rattle.line.proofs.Cuts.{drop-take}
 use Rattle.text.specs.Block.{Block, block, blockOf}
 use Rattle.text.proofs.Joins.{left-short}
+use Rattle.mc33.specs.declared.Failure.{Failure}
 use Rattle.mc33.specs.declared.State.{State}
 use Rattle.mc33.specs.Kept.{empty, failure, OrFailed, Begins, Kept}
 
-pub failed-short : (r : State) → r ≡ failure → r .have ≤ 81
-failed-short r e = omega (arith, ap (λ (s : State). s .have) e)
+pub failed-short : (r : State) (why : Failure) → r ≡ failure why → r .have ≤ 81
+failed-short r why e = omega (arith, ap (λ (s : State). s .have) e)
 
-pub not-wrote : (wrote : Bool) (r next : State) → not wrote ≡ true → r ≡ failure → r ≡ cond wrote next failure
-not-wrote wrote r next h e = e ∙ ap (λ (b : Bool). cond b next failure) (sym (not-true wrote h))
+pub not-wrote : (wrote : Bool) (r next : State) → not wrote ≡ true → r ≡ failure Failure.Write → r ≡ cond wrote next (failure Failure.Write)
+not-wrote wrote r next h e = e ∙ ap (λ (b : Bool). cond b next (failure Failure.Write)) (sym (not-true wrote h))
 
-pub wrote-all : (wrote : Bool) (next : State) → not wrote ≡ false → next ≡ cond wrote next failure
-wrote-all wrote next h = ap (λ (b : Bool). cond b next failure) (sym (not-false wrote h))
+pub wrote-all : (wrote : Bool) (next : State) → not wrote ≡ false → next ≡ cond wrote next (failure Failure.Write)
+wrote-all wrote next h = ap (λ (b : Bool). cond b next (failure Failure.Write)) (sym (not-false wrote h))
 
 -- where the write told that it failed, so it is; else P holds of the next state
-pub after : (P : State → Type 0) (wrote : Bool) (r next : State) → r ≡ cond wrote next failure → next .have ≤ 81 → P next → (r .have ≤ 81) × OrFailed r (P r)
+pub after : (P : State → Type 0) (wrote : Bool) (r next : State) → r ≡ cond wrote next (failure Failure.Write) → next .have ≤ 81 → P next → (r .have ≤ 81) × OrFailed Failure.Write r (P r)
 after P true r next e h p = (subst (λ (s : State). s .have ≤ 81) (sym e) h, inr (subst P (sym e) p))
-after P false r next e h p = (failed-short r e, inl e)
+after P false r next e h p = (failed-short r Failure.Write e, inl e)
 
 -- what was put stands at the front
 front : (out text : List ℕ) (put : ℕ) → put ≤ length out → take put out ≡ text → Begins out text
@@ -68,7 +69,7 @@ module _ (r : State) (xs ys out : List ℕ) (first n left number put : ℕ) (ove
     number = λ t. absurd (true≢false (sym t ∙ g));
   }
 
-  pub kept : over ≡ false → r .going ≡ true → r .failed ≡ false → r .number ≡ number → r .have ≡ n - left → ys ≡ placed xs 0 (take (n - left) (drop left xs))
+  pub kept : over ≡ false → r .going ≡ true → r .failed ≡ Failure.Nothing → r .number ≡ number → r .have ≡ n - left → ys ≡ placed xs 0 (take (n - left) (drop left xs))
       → (r .have ≤ 81) × Kept r ys out (blockOf first (take n xs))
   kept o g w k a b =
       let j = ap (λ (x : Block). x .left) lent in (

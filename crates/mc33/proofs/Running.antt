@@ -11,6 +11,7 @@ use lib.ListN.{take}
 use Rattle.text.specs.Run.{atEnd, run}
 use Rattle.text.specs.Block.{Block, blockOf, runBlocks}
 use Rattle.text.proofs.Joins.{blocks-join}
+use Rattle.mc33.specs.declared.Failure.{Failure}
 use Rattle.mc33.specs.declared.State.{State}
 use Rattle.mc33.specs.Kept.{empty, failure, Kept, TurnedBy, Turned}
 use Rattle.mc33.specs.Runs.{mostTurns, handed, Ran, begun, turned, Finished}
@@ -28,11 +29,17 @@ one-more (input ∷ inputs) came more e =
     ∙ sym (append-assoc input (foldr _++_ [] inputs) more)
     ∙ ap (λ (w : List ℕ). w ++ more) e
 
-failed-stops : (r : State) → r ≡ failure → r .going ≡ true → ⊥
-failed-stops r e g = true≢false (sym g ∙ ap (λ (s : State). s .going) e)
+failed-stops : (r : State) (why : Failure) → r ≡ failure why → r .going ≡ true → ⊥
+failed-stops r why e g = true≢false (sym g ∙ ap (λ (s : State). s .going) e)
 
-failed-told : (r : State) → r ≡ failure → r .failed ≡ false → ⊥
-failed-told r e w = true≢false (sym (ap (λ (s : State). s .failed) e) ∙ w)
+abbrev well : Failure → Bool
+well Failure.Nothing = true
+well Failure.Read = false
+well Failure.Count = false
+well Failure.Write = false
+
+failed-told : (r : State) (why : Failure) → well why ≡ false → r ≡ failure why → r .failed ≡ Failure.Nothing → ⊥
+failed-told r why o e w = true≢false (sym (ap well w) ∙ ap (λ (s : State). well (s .failed)) e ∙ o)
 
 -- what a block that is not the end writes, and what the later blocks write behind it
 block-more : (n : ℕ) (part more next : List ℕ) (number : ℕ) (later : List (List ℕ)) → blockOf n (part ++ more) .over ≡ false → number ≡ blockOf n (part ++ more) .number → next ≡ blockOf n (part ++ more) .left
@@ -90,11 +97,11 @@ Going came written s buf = (inputs : List (List ℕ)) × Joined came written (s 
 
 going-on : (more : List ℕ) (came written : List ℕ) (s r : State) (xs buf out : List ℕ) → Going came written s xs → TurnedBy more s xs r buf out → r .going ≡ true
     → Going (came ++ more) (written ++ handed (s .number) (take (s .have) xs) more) r buf
-going-on more came written s r xs buf out j (inl e) g = absurd (failed-stops r e g)
-going-on [] came written s r xs buf out j (inr (inl e)) g = absurd (failed-stops r e g)
+going-on more came written s r xs buf out j (inl e) g = absurd (failed-stops r Failure.Read e g)
+going-on [] came written s r xs buf out j (inr (inl e)) g = absurd (failed-stops r Failure.Write e g)
 going-on [] came written s r xs buf out j (inr (inr e)) g = absurd (true≢false (sym g ∙ ap (λ (s : State). s .going) (e .0)))
-going-on (b ∷ bs) came written s r xs buf out j (inr (inl e)) g = absurd (failed-stops r (e .1) g)
-going-on (b ∷ bs) came written s r xs buf out j (inr (inr (h, inl e))) g = absurd (failed-stops r e g)
+going-on (b ∷ bs) came written s r xs buf out j (inr (inl e)) g = absurd (failed-stops r Failure.Count (e .1) g)
+going-on (b ∷ bs) came written s r xs buf out j (inr (inr (h, inl e))) g = absurd (failed-stops r Failure.Write e g)
 going-on (b ∷ bs) came written s r xs buf out j (inr (inr (h, inr k))) g =
     (j .0 ++ ((b ∷ bs) ∷ []), joined-more came written (s .number) (take (s .have) xs) (j .0) (j .1) (b ∷ bs) r buf out k g)
 
@@ -104,18 +111,18 @@ going k came written r buf (turned {k = k₀} {came = came₀} {written = writte
     going-on more came₀ written₀ s r xs buf out (going k₀ came₀ written₀ s xs ran h) t g
 
 stopping : (more : List ℕ) (came written : List ℕ) (s r : State) (xs buf out : List ℕ) → Going came written s xs → TurnedBy more s xs r buf out
-    → r .going ≡ false → r .failed ≡ false → written ++ handed (s .number) (take (s .have) xs) more ≡ run (came ++ more)
-stopping more came written s r xs buf out j (inl e) g w = absurd (failed-told r e w)
-stopping [] came written s r xs buf out j (inr (inl e)) g w = absurd (failed-told r e w)
+    → r .going ≡ false → r .failed ≡ Failure.Nothing → written ++ handed (s .number) (take (s .have) xs) more ≡ run (came ++ more)
+stopping more came written s r xs buf out j (inl e) g w = absurd (failed-told r Failure.Read refl e w)
+stopping [] came written s r xs buf out j (inr (inl e)) g w = absurd (failed-told r Failure.Write refl e w)
 stopping [] came written s r xs buf out j (inr (inr e)) g w = joined-end came written (s .number) (take (s .have) xs) (j .0) (j .1)
-stopping (b ∷ bs) came written s r xs buf out j (inr (inl e)) g w = absurd (failed-told r (e .1) w)
-stopping (b ∷ bs) came written s r xs buf out j (inr (inr (h, inl e))) g w = absurd (failed-told r e w)
+stopping (b ∷ bs) came written s r xs buf out j (inr (inl e)) g w = absurd (failed-told r Failure.Count refl (e .1) w)
+stopping (b ∷ bs) came written s r xs buf out j (inr (inr (h, inl e))) g w = absurd (failed-told r Failure.Write refl e w)
 stopping (b ∷ bs) came written s r xs buf out j (inr (inr (h, inr k))) g w =
     let x : Block = blockOf (s .number) (take (s .have) xs ++ (b ∷ bs)) in
     joined-last came written (s .number) (take (s .have) xs) (j .0) (j .1) (b ∷ bs) (not-false (x .over) (sym (k .goes) ∙ g))
 
 -- a run that stops, and nothing failed
-pub whole : (k : ℕ) (came written : List ℕ) (r : State) (buf : List ℕ) → Ran k came written r buf → r .going ≡ false → r .failed ≡ false → written ≡ run came
+pub whole : (k : ℕ) (came written : List ℕ) (r : State) (buf : List ℕ) → Ran k came written r buf → r .going ≡ false → r .failed ≡ Failure.Nothing → written ≡ run came
 whole k came written r buf begun g w = absurd (true≢false g)
 whole k came written r buf (turned {k = k₀} {came = came₀} {written = written₀} {s = s} {xs = xs} out more ran h t) g w =
     stopping more came₀ written₀ s r xs buf out (going k₀ came₀ written₀ s xs ran h) t g w

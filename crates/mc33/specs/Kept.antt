@@ -8,6 +8,7 @@ use lib.IntN.{ℤ, pos, negsuc}
 use lib.ListN.{length, take, drop}
 use Rattle.text.specs.Run.{atEnd}
 use Rattle.text.specs.Block.{Block, blockOf}
+use Rattle.mc33.specs.declared.Failure.{Failure}
 use Rattle.mc33.specs.declared.State.{State}
 
 -- the lines are counted up to here
@@ -16,19 +17,19 @@ mostLines = 2 ^ 63
 
 -- nothing is kept, and line 1 is to come: how the program begins, and with false how it stops
 abbrev pub empty : Bool → State
-empty going = record { have = 0; number = 1; going = going; failed = false }
+empty going = record { have = 0; number = 1; going = going; failed = Failure.Nothing }
 
 -- how it stops where something failed
-abbrev pub failure : State
-failure = record { have = 0; number = 0; going = false; failed = true }
+abbrev pub failure : Failure → State
+failure why = record { have = 0; number = 0; going = false; failed = why }
 
--- the call failed, or P holds
-abbrev pub OrFailed : State → Type 0 → Type 0
-OrFailed r P = (r ≡ failure) ⊎ P
+-- this failed, or P holds
+abbrev pub OrFailed : Failure → State → Type 0 → Type 0
+OrFailed why r P = (r ≡ failure why) ⊎ P
 
 -- line `number` cannot be counted; or it can, and then the write failed or P holds
 abbrev pub Counted : ℕ → State → Type 0 → Type 0
-Counted number r P = ((mostLines ≤ number) × (r ≡ failure)) ⊎ ((number < mostLines) × OrFailed r P)
+Counted number r P = ((mostLines ≤ number) × (r ≡ failure Failure.Count)) ⊎ ((number < mostLines) × OrFailed Failure.Write r P)
 
 abbrev pub BelowZero : ℤ → Type 0
 BelowZero z = (k : ℕ) × (z ≡ negsuc k)
@@ -41,18 +42,23 @@ Rooms buf out = (length buf ≡ 65536) × (length out ≡ 65664)
 abbrev pub Begins : List ℕ → List ℕ → Type 0
 Begins xs text = take (length text) xs ≡ text
 
+-- what is written for a block of line `number`, or at the input's end in line `number`
+abbrev pub comesTo : Bool → ℕ → List ℕ → List ℕ
+comesTo true number part = atEnd number part
+comesTo false number input = blockOf number input .written
+
 -- after the block x: out begins with what x wrote; the program goes on exactly where x was not the end, and then keeps the part line that x
 -- left, and its number
 pub record Kept (r : State) (buf out : List ℕ) (x : Block) : Type 0 where
   pub text : Begins out (x .written)
   pub goes : r .going ≡ not (x .over)
-  pub well : r .failed ≡ false
+  pub well : r .failed ≡ Failure.Nothing
   pub left : r .going ≡ true → take (r .have) buf ≡ x .left
   pub number : r .going ≡ true → r .number ≡ x .number
 
 -- the input ends behind the part line of line `number`: the write failed, or out begins with what the input's end comes to, and the program stops
 abbrev pub Ended : ℕ → List ℕ → State → List ℕ → Type 0
-Ended number part r out = OrFailed r ((r ≡ empty false) × Begins out (atEnd number part))
+Ended number part r out = OrFailed Failure.Write r ((r ≡ empty false) × Begins out (atEnd number part))
 
 -- what a read put behind the part line of line `number`: none, and the input has ended; or some, and the block is the two together
 abbrev pub Came : List ℕ → ℕ → List ℕ → State → List ℕ → List ℕ → Type 0
@@ -62,12 +68,12 @@ Came (b ∷ bs) number part r buf out = Counted number r (Kept r buf out (blockO
 -- a read that told `got` left xs: got is below zero, and the program stops; or that many bytes came
 abbrev pub Told : ℤ → State → List ℕ → State → List ℕ → List ℕ → Type 0
 Told got state xs r buf out =
-    (BelowZero got × (r ≡ failure))
+    (BelowZero got × (r ≡ failure Failure.Read))
     ⊎ ((k : ℕ) × ((got ≡ pos k) × Came (take k (drop (state .have) xs)) (state .number) (take (state .have) xs) r buf out))
 
 -- behind the part line that xs held the read failed, or these bytes came
 abbrev pub TurnedBy : List ℕ → State → List ℕ → State → List ℕ → List ℕ → Type 0
-TurnedBy came state xs r buf out = OrFailed r (Came came (state .number) (take (state .have) xs) r buf out)
+TurnedBy came state xs r buf out = OrFailed Failure.Read r (Came came (state .number) (take (state .have) xs) r buf out)
 
 abbrev pub Turned : State → List ℕ → State → List ℕ → List ℕ → Type 0
 Turned state xs r buf out = (came : List ℕ) × TurnedBy came state xs r buf out

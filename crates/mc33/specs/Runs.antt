@@ -5,10 +5,10 @@ use mathlib.Core.Bool.{true, false}
 use mathlib.Core.List.{List, [], _∷_, _++_}
 use mathlib.Core.Logic.{_⊎_}
 use lib.ListN.{take}
-use Rattle.text.specs.Run.{atEnd, run}
-use Rattle.text.specs.Block.{blockOf}
+use Rattle.text.specs.Run.{run}
+use Rattle.mc33.specs.declared.Failure.{Failure}
 use Rattle.mc33.specs.declared.State.{State}
-use Rattle.mc33.specs.Kept.{empty, TurnedBy}
+use Rattle.mc33.specs.Kept.{empty, comesTo, TurnedBy}
 
 -- a loop has to end: so many turns are made at most
 abbrev pub mostTurns : ℕ
@@ -16,8 +16,8 @@ mostTurns = 2 ^ 64 - 1
 
 -- what is handed to the write where these bytes, or none, came behind the part line of line `number`
 abbrev pub handed : ℕ → List ℕ → List ℕ → List ℕ
-handed number part [] = atEnd number part
-handed number part (b ∷ bs) = blockOf number (part ++ (b ∷ bs)) .written
+handed number part [] = comesTo true number part
+handed number part (b ∷ bs) = comesTo false number (part ++ (b ∷ bs))
 
 -- after so many turns, each from a state that goes on: what came in all, what was handed to the writes in all, the state, and what stands in the
 -- room for a block
@@ -33,4 +33,4 @@ pub record Finished (r : State) (buf : List ℕ) : Type 0 where
   pub written : List ℕ
   pub ran : Ran turns came written r buf
   pub ends : (r .going ≡ false) ⊎ (turns ≡ mostTurns)
-  pub whole : r .going ≡ false → r .failed ≡ false → written ≡ run came
+  pub whole : r .going ≡ false → r .failed ≡ Failure.Nothing → written ≡ run came

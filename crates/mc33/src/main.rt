@@ -1,14 +1,14 @@
 // The text program of document 01, 'Program': standard input to standard output. A turn reads a block behind
 // the part line that the last one left, answers the whole lines, writes the answers and moves the part line
 // to the front, so memory does not grow with the input. What is answered is `text`'s; here is what reads,
-// writes and keeps. Whatever goes to standard output is handed to `write_block` or `write_end`.
+// writes and keeps. Whatever goes to standard output is handed to `write_text`.
 ghost use mathlib.Core.Path.{_≡_};
 ghost use mathlib.Core.Bool.{cond};
 ghost use Prim.Native.Nat.{_+_, _≤_};
 ghost use lib.ListN.{length, take};
-ghost use Rattle.text.specs.Run.{atEnd};
 ghost use Rattle.text.specs.Block.{blockOf};
-ghost use Rattle.mc33.specs.Kept.{mostLines, empty, failure, BelowZero, Rooms, Kept, Counted, Ended, Told, Turned};
+ghost use Rattle.mc33.specs.declared.Failure.{Failure};
+ghost use Rattle.mc33.specs.Kept.{empty, failure, comesTo, Rooms, Kept, Counted, Ended, Told, Turned};
 ghost use Rattle.mc33.specs.Runs.{Finished};
 use libc::STDERR_FILENO;
 use libc::STDIN_FILENO;
@@ -20,13 +20,20 @@ const MOST_LINES: u64 = 0x8000_0000_0000_0000;
 // A loop has to end: so many turns are made at most, 2^64 - 1.
 const MOST_TURNS: u64 = u64::MAX;
 
-// How many bytes of the part line are kept, its number, whether to go on, and whether a read, a write or the
-// count of the lines failed.
+// What failed.
+enum Failure {
+    Nothing,
+    Read,
+    Count,
+    Write,
+}
+
+// How many bytes of the part line are kept, its number, whether to go on, and what failed.
 struct State {
     have: usize,
     number: u64,
     going: bool,
-    failed: bool,
+    failed: Failure,
 }
 
 // Nothing is kept, and line 1 is to come: how it begins, and with false how it stops.
@@ -37,13 +44,13 @@ fn empty(going: bool) -> State
         have: 0,
         number: 1,
         going: going,
-        failed: false,
+        failed: Failure::Nothing,
     }
 }
 
 // Says what failed, and stops.
-fn failed(what: &[u8]) -> State
-    ensures { λ r. ⌜ r ≡ failure ⌝ }
+fn failed(what: &[u8], why: Failure) -> State
+    ensures { λ r. ⌜ r ≡ failure why ⌝ }
 {
     io::write_all(STDERR_FILENO, b"mc33: ");
     io::write_all(STDERR_FILENO, what);
@@ -52,46 +59,24 @@ fn failed(what: &[u8]) -> State
         have: 0,
         number: 0,
         going: false,
-        failed: true,
+        failed: why,
     }
-}
-
-// No line has a number above 2^63.
-fn count_failed(number: u64) -> State
-    requires { ⌜ mostLines ≤ number ⌝ }
-    ensures { λ r. ⌜ r ≡ failure ⌝ }
-{
-    failed(b"counting the lines")
-}
-
-// The read told a number below zero.
-fn read_failed(got: isize) -> State
-    requires { ⌜ BelowZero got ⌝ }
-    ensures { λ r. ⌜ r ≡ failure ⌝ }
-{
-    failed(b"read")
 }
 
 // Goes by what the write told: on to the next state, or the write failed.
 fn after_write(wrote: bool, next: State) -> State
-    ensures { λ r. ⌜ r ≡ cond wrote next failure ⌝ }
+    ensures { λ r. ⌜ r ≡ cond wrote next (failure Failure.Write) ⌝ }
 {
     if !wrote {
-        return failed(b"write");
+        return failed(b"write", Failure::Write);
     }
     next
 }
 
-// Writes what the block of this input, from line `number` on, comes to.
-fn write_block(text: &[u8], number: u64, input: &[u8]) -> bool
-    requires { ⌜ now text ≡ (blockOf number (now input)) .written ⌝ }
-{
-    io::write_all(STDOUT_FILENO, text)
-}
-
-// Writes what the input's end comes to, in line `number`, of which `part` has come.
-fn write_end(text: &[u8], number: u64, part: &[u8]) -> bool
-    requires { ⌜ now text ≡ atEnd number (now part) ⌝ }
+// Writes what the block of this input, from line `number` on, comes to; at the input's end, what the end comes to in
+// line `number`, of which the input has come.
+fn write_text(text: &[u8], number: u64, input: &[u8], ended: bool) -> bool
+    requires { ⌜ now text ≡ comesTo ended number (now input) ⌝ }
 {
     io::write_all(STDOUT_FILENO, text)
 }
@@ -103,11 +88,11 @@ fn answer(number: u64, buf: &mut [u8], n: usize, out: &mut [u8]) -> State
     ensures kept { λ r. ⌜ Counted number r (Kept r (now (buf .exit)) (now (out .exit)) (blockOf number (take n (now (buf .entry))))) ⌝ }
 {
     if MOST_LINES <= number {
-        return count_failed(number);
+        return failed(b"counting the lines", Failure::Count);
     }
     let done = text::answer_block(&buf[0..n], number, out);
     let put = done.put;
-    let wrote = write_block(&out[0..put], number, &buf[0..n]);
+    let wrote = write_text(&out[0..put], number, &buf[0..n], false);
     if done.over {
         return after_write(wrote, empty(false));
     }
@@ -116,7 +101,7 @@ fn answer(number: u64, buf: &mut [u8], n: usize, out: &mut [u8]) -> State
         have: put::to_front(buf, left, n),
         number: done.number,
         going: true,
-        failed: false,
+        failed: Failure::Nothing,
     };
     after_write(wrote, next)
 }
@@ -128,7 +113,7 @@ fn finish(number: u64, part: &[u8], out: &mut [u8]) -> State
     ensures ended { λ r. ⌜ Ended number (now (part .entry)) r (now (out .exit)) ⌝ }
 {
     let put = text::finish(part, number, out);
-    let wrote = write_end(&out[0..put], number, part);
+    let wrote = write_text(&out[0..put], number, part, true);
     after_write(wrote, empty(false))
 }
 
@@ -140,7 +125,7 @@ fn after_read(got: isize, state: State, buf: &mut [u8], out: &mut [u8]) -> State
     ensures told { λ r. ⌜ Told got state (now (buf .entry)) r (now (buf .exit)) (now (out .exit)) ⌝ }
 {
     if got < 0 {
-        return read_failed(got);
+        return failed(b"read", Failure::Read);
     }
     let have = state.have;
     if got == 0 {

@@ -1,23 +1,25 @@
 -- `mc33::after_read` goes by what the read told. Assumes nothing.
 use borrow.Author.Needs.{needs}
 use native.Mathlib.Omega.{arith}
-use mir.Syntax.{w64}
-use mir.Val.{toZ, ofZ}
 use Rattle.mc33.proofs.Keeping.{failed-short}
-use Rattle.mc33.proofs.Coming.{below, told-failed, none-came, some-came}
+use Rattle.mc33.proofs.Coming.{told-failed, none-came, some-came}
 use Rattle.mc33.proofs.after_read.Statement.{statement}
 use Rattle.mc33.proofs.after_read.Tie as tie
 
-read-failed-requires : tie.Need-read-failed-requires
-read-failed-requires c κs = below (toZ w64 (ofZ w64 (c .before .before .before .args .got))) (c .if1 .taken)
+slice-aggregate-failed : tie.Need-slice-aggregate-failed
+slice-aggregate-failed c = search needs
+
+failed-requires : tie.Need-failed-requires
+failed-requires c κs = search needs
 
 returns : tie.Need-returns
 returns c =
-    let f = c .read-failed in
-    let s = c .before .before .before .before in
+    let s : tie.Start = search in
+    let t : tie.Then1 = search in
+    let f = c .failed in
     let a = s .args in (
-      failed-short _ (f .ensures),
-      told-failed (a .state) (f .result) (a .buf .now) (a .buf .now) (a .out .now) (a .got) (s .fits .got) (c .before .if1 .taken) (f .ensures),
+      failed-short _ _ (f .ensures),
+      told-failed (a .state) (f .result) (a .buf .now) (a .buf .now) (a .out .now) (a .got) (s .fits .got) (t .if1 .taken) (f .ensures),
     )
 
 sub-finish : tie.Need-sub-finish
@@ -88,7 +90,8 @@ pub after-read-spec : {M : Type 1} → statement M
 after-read-spec =
     tie.close
     (tie.spec
-    read-failed-requires
+    slice-aggregate-failed
+    failed-requires
     returns
     sub-finish
     part-finish-start

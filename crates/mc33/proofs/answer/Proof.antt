@@ -9,6 +9,7 @@ use native.Mathlib.Omega.{arith}
 use lib.ListN.{take, drop}
 use Rattle.put.specs.Placed.{placed}
 use Rattle.text.specs.Block.{blockOf}
+use Rattle.mc33.specs.declared.Failure.{Failure}
 use Rattle.mc33.specs.declared.State.{State}
 use Rattle.mc33.specs.Kept.{mostLines, empty, Kept}
 use Rattle.mc33.proofs.Keeping.{failed-short, after, block-lent, kept, kept-none}
@@ -39,7 +40,7 @@ stops b r o e =
       kept-none r (a .buf .now) (a .buf .now) (text b) (a .number) (a .n) (x .left) (x .number) (x .put) (x .over) (omega arith) (omega arith) (omega arith) (b .answer-block .ensures .0) o e,
     )
 
-goes-on : (b : tie.After-answer-block) (r : State) (buf : List ℕ) → b .answer-block .result .over ≡ false → r .going ≡ true → r .failed ≡ false
+goes-on : (b : tie.After-answer-block) (r : State) (buf : List ℕ) → b .answer-block .result .over ≡ false → r .going ≡ true → r .failed ≡ Failure.Nothing
     → r .number ≡ b .answer-block .result .number → r .have ≡ start b .args .n - b .answer-block .result .left
     → buf ≡ placed (start b .args .buf .now) 0 (take (start b .args .n - b .answer-block .result .left) (drop (b .answer-block .result .left) (start b .args .buf .now)))
     → (r .have ≤ 81) × Keeps b buf r
@@ -48,11 +49,14 @@ goes-on b r buf =
     let x = b .answer-block .result in
     kept r (a .buf .now) buf (text b) (a .number) (a .n) (x .left) (x .number) (x .put) (x .over) (omega arith) (omega arith) (omega arith) (b .answer-block .ensures .0)
 
-count-failed-requires : tie.Need-count-failed-requires
-count-failed-requires c κs = search needs
+slice-aggregate-failed : tie.Need-slice-aggregate-failed
+slice-aggregate-failed c = search needs
+
+failed-requires : tie.Need-failed-requires
+failed-requires c κs = search needs
 
 returns : tie.Need-returns
-returns c = (failed-short _ (c .count-failed .ensures), inl (omega arith, c .count-failed .ensures))
+returns c = (failed-short _ _ (c .failed .ensures), inl (omega arith, c .failed .ensures))
 
 sub-answer-block : tie.Need-sub-answer-block
 sub-answer-block c = search needs
@@ -66,26 +70,26 @@ part-answer-block-end c = search needs
 answer-block-requires : tie.Need-answer-block-requires
 answer-block-requires c κs = search needs
 
-sub-write-block : tie.Need-sub-write-block
-sub-write-block c = search needs
+sub-write-text : tie.Need-sub-write-text
+sub-write-text c = search needs
 
-part-write-block-start : tie.Need-part-write-block-start
-part-write-block-start c = search needs
+part-write-text-start : tie.Need-part-write-text-start
+part-write-text-start c = search needs
 
-part-write-block-end : tie.Need-part-write-block-end
-part-write-block-end c = search needs
+part-write-text-end : tie.Need-part-write-text-end
+part-write-text-end c = search needs
 
-sub-write-block-2 : tie.Need-sub-write-block-2
-sub-write-block-2 c = search needs
+sub-write-text-2 : tie.Need-sub-write-text-2
+sub-write-text-2 c = search needs
 
-part-write-block-start-2 : tie.Need-part-write-block-start-2
-part-write-block-start-2 c = search needs
+part-write-text-start-2 : tie.Need-part-write-text-start-2
+part-write-text-start-2 c = search needs
 
-part-write-block-end-2 : tie.Need-part-write-block-end-2
-part-write-block-end-2 c = search needs
+part-write-text-end-2 : tie.Need-part-write-text-end-2
+part-write-text-end-2 c = search needs
 
-write-block-requires : tie.Need-write-block-requires
-write-block-requires c κs = let b : tie.After-answer-block = search in handed b
+write-text-requires : tie.Need-write-text-requires
+write-text-requires c κs = let b : tie.After-answer-block = search in handed b
 
 empty-requires : tie.Need-empty-requires
 empty-requires c κs = search needs
@@ -102,10 +106,10 @@ same-length-2 c = search needs
 returns-2 : tie.Need-returns-2
 returns-2 c =
     let b : tie.After-answer-block = search in
-    let w : tie.After-write-block = search in
+    let w : tie.After-write-text = search in
     let e = c .before .empty in
     let k = stops b (e .result) (c .before .before .if2 .taken) (e .ensures) in
-    let a = after (Keeps b (start b .args .buf .now)) (w .write-block .result) _ (e .result) (c .after-write .ensures) (k .0) (k .1) in
+    let a = after (Keeps b (start b .args .buf .now)) (w .write-text .result) _ (e .result) (c .after-write .ensures) (k .0) (k .1) in
     (a .0, inr (counted b, a .1))
 
 to-front-requires : tie.Need-to-front-requires
@@ -123,31 +127,32 @@ same-length-4 c = search needs
 returns-3 : tie.Need-returns-3
 returns-3 c =
     let b : tie.After-answer-block = search in
-    let w : tie.After-write-block = search in
+    let w : tie.After-write-text = search in
     let t : tie.Else2 = search in
     let f = c .before .before .before .to-front in
-    let next : State = record { have = f .result; number = b .answer-block .result .number; going = true; failed = false } in
+    let next : State = record { have = f .result; number = b .answer-block .result .number; going = true; failed = Failure.Nothing } in
     let k = goes-on b next (f .last .0) (t .if2 .left) refl refl refl (f .ensures .0) (f .ensures .1) in
-    let a = after (Keeps b (f .last .0)) (w .write-block .result) _ next (c .after-write2 .ensures) (k .0) (k .1) in
+    let a = after (Keeps b (f .last .0)) (w .write-text .result) _ next (c .after-write2 .ensures) (k .0) (k .1) in
     (a .0, inr (counted b, a .1))
 
 pub answer-spec : {M : Type 1} → statement M
 answer-spec =
     tie.close
     (tie.spec
-    count-failed-requires
+    slice-aggregate-failed
+    failed-requires
     returns
     sub-answer-block
     part-answer-block-start
     part-answer-block-end
     answer-block-requires
-    sub-write-block
-    part-write-block-start
-    part-write-block-end
-    sub-write-block-2
-    part-write-block-start-2
-    part-write-block-end-2
-    write-block-requires
+    sub-write-text
+    part-write-text-start
+    part-write-text-end
+    sub-write-text-2
+    part-write-text-start-2
+    part-write-text-end-2
+    write-text-requires
     empty-requires
     after-write-requires
     same-length

@@ -13,17 +13,17 @@ use Rattle.mc33.proofs.finish.Tie as tie
 finish-requires : tie.Need-finish-requires
 finish-requires c κs = search needs
 
-sub-write-end : tie.Need-sub-write-end
-sub-write-end c = search needs
+sub-write-text : tie.Need-sub-write-text
+sub-write-text c = search needs
 
-part-write-end-start : tie.Need-part-write-end-start
-part-write-end-start c = search needs
+part-write-text-start : tie.Need-part-write-text-start
+part-write-text-start c = search needs
 
-part-write-end-end : tie.Need-part-write-end-end
-part-write-end-end c = search needs
+part-write-text-end : tie.Need-part-write-text-end
+part-write-text-end c = search needs
 
-write-end-requires : tie.Need-write-end-requires
-write-end-requires c κs = let f = c .before .before .before .before .finish in placed-lent _ _ _ _ (f .ensures .1 .0) (f .ensures .0 .0)
+write-text-requires : tie.Need-write-text-requires
+write-text-requires c κs = let b : tie.After-finish = search in placed-lent _ _ _ (b .finish .result) (b .finish .ensures .1 .0) (b .finish .ensures .0 .0)
 
 empty-requires : tie.Need-empty-requires
 empty-requires c κs = search needs
@@ -36,20 +36,23 @@ same-length c = search needs
 
 returns : tie.Need-returns
 returns c =
-    let f = c .before .before .before .before .before .before .before .finish in
-    let s = c .before .before .before .before .before .before .before .before .before .before .before in
-    after (λ (r : State). (r ≡ empty false) × Begins (f .last .1 .1 .0) (atEnd (s .args .number) (s .args .part .now))) (c .before .before .write-end .result) _ (c .before .empty .result)
-    (c .after-write .ensures) (omega (arith, ap (λ (s : State). s .have) (c .before .empty .ensures))) (c .before .empty .ensures, placed-begins _ _ _ (f .ensures .1 .0))
+    let s : tie.Start = search in
+    let b : tie.After-finish = search in
+    let w : tie.After-write-text = search in
+    let out = b .finish .last .1 .1 .0 in
+    let e = c .before .empty in
+    after (λ (r : State). (r ≡ empty false) × Begins out (atEnd (s .args .number) (s .args .part .now))) (w .write-text .result) _ (e .result) (c .after-write .ensures)
+    (omega (arith, ap (λ (s : State). s .have) (e .ensures))) (e .ensures, placed-begins _ _ _ (b .finish .ensures .1 .0))
 
 pub finish-spec : {M : Type 1} → statement M
 finish-spec =
     tie.close
     (tie.spec
     finish-requires
-    sub-write-end
-    part-write-end-start
-    part-write-end-end
-    write-end-requires
+    sub-write-text
+    part-write-text-start
+    part-write-text-end
+    write-text-requires
     empty-requires
     after-write-requires
     same-length
