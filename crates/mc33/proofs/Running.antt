@@ -42,7 +42,8 @@ failed-told : (r : State) (why : Failure) → well why ≡ false → r ≡ failu
 failed-told r why o e w = true≢false (sym (ap well w) ∙ ap (λ (s : State). well (s .failed)) e ∙ o)
 
 -- what a block that is not the end writes, and what the later blocks write behind it
-block-more : (n : ℕ) (part more next : List ℕ) (number : ℕ) (later : List (List ℕ)) → blockOf n (part ++ more) .over ≡ false → number ≡ blockOf n (part ++ more) .number → next ≡ blockOf n (part ++ more) .left
+block-more : (n : ℕ) (part more next : List ℕ) (number : ℕ) (later : List (List ℕ)) → blockOf n (part ++ more) .over ≡ false
+    → number ≡ blockOf n (part ++ more) .number → next ≡ blockOf n (part ++ more) .left
     → runBlocks n part (more ∷ later) ≡ blockOf n (part ++ more) .written ++ runBlocks number next later
 unfolding runBlocks
 block-more n part more next number later o k l =

@@ -11,7 +11,7 @@ use Rattle.text.specs.Block.{Block, blockOf}
 use Rattle.mc33.specs.declared.Failure.{Failure}
 use Rattle.mc33.specs.declared.State.{State}
 
--- the lines are counted up to here
+-- the lines are counted up to here: a block that begins at this line is not answered
 abbrev pub mostLines : ℕ
 mostLines = 2 ^ 63
 
@@ -71,7 +71,7 @@ Told got state xs r buf out =
     (BelowZero got × (r ≡ failure Failure.Read))
     ⊎ ((k : ℕ) × ((got ≡ pos k) × Came (take k (drop (state .have) xs)) (state .number) (take (state .have) xs) r buf out))
 
--- behind the part line that xs held the read failed, or these bytes came
+-- a turn from `state`, with xs in the room for a block: the read failed, or these bytes came behind the part line that xs held
 abbrev pub TurnedBy : List ℕ → State → List ℕ → State → List ℕ → List ℕ → Type 0
 TurnedBy came state xs r buf out = OrFailed Failure.Read r (Came came (state .number) (take (state .have) xs) r buf out)
 

@@ -19,8 +19,8 @@ abbrev pub handed : ℕ → List ℕ → List ℕ → List ℕ
 handed number part [] = comesTo true number part
 handed number part (b ∷ bs) = comesTo false number (part ++ (b ∷ bs))
 
--- after so many turns, each from a state that goes on: what came in all, what was handed to the writes in all, the state, and what stands in the
--- room for a block
+-- after so many turns, each from a state that goes on: what came in all, what is handed to the writes for it, the state, and what stands in the
+-- room for a block; the last turn may have failed
 pub data Ran : ℕ → List ℕ → List ℕ → State → List ℕ → Type 0 where
   begun : {buf : List ℕ} → Ran 0 [] [] (empty true) buf
   turned : {k : ℕ} {came written : List ℕ} {s r : State} {xs buf : List ℕ} (out more : List ℕ) → Ran k came written s xs → s .going ≡ true
