@@ -1,3 +1,4 @@
 mod Coming
+mod Controls
 mod Keeping
 mod Running
