@@ -1,141 +1,161 @@
 // The escapes of a test: `\n`, `\r`, `\t`, `\0`, `\\`, `\xHH` with two lower-case hex digits, `\N` and `\A`
 // for the names line of the input and of the output, `\C` for eight corners, `\L` for 100,000 bytes '1'.
-ghost use mathlib.Core.Path.{_≡_};
+// What these and the other bytes stand for is laid at the front of the room once; a test is copied from there.
 ghost use Prim.Native.Nat.{_≤_, _<_};
 ghost use lib.ListN.{length};
 
-// How many bytes were put; or that an escape is none of these, or that the room is too short.
-pub(crate) enum Decoded {
-    Bytes(usize),
-    Not,
-}
+// The two names lines and the corners, every byte, and 100,000 bytes '1': behind these the tests are decoded.
+pub(crate) const KNOWN: usize = 100397;
 
-// The place in the text and in the room, and whether all went well up to there.
-struct Place {
-    at: usize,
-    put: usize,
-    good: bool,
-}
+pub(crate) const ROOM: usize = 231469;
 
-fn bad(at: usize) -> Place
-    ensures { λ r. ⌜ r .at ≡ at ⌝ }
+// How long the names lines and the corners are.
+const LINES: usize = 141;
+
+// More than any room.
+const NOT: usize = usize::MAX;
+
+pub(crate) fn wide(byte: u8) -> u64
+    ensures { λ r. ⌜ r ≤ 255 ⌝ }
 {
-    Place {
-        at: at,
-        put: 0,
-        good: false,
+    byte as u64
+}
+
+// Lays the names lines and the corners.
+pub(crate) fn lay_lines(room: &mut [u8])
+    requires { ⌜ 141 ≤ length (now room) ⌝ }
+{
+    bytes::copy(
+        b"case config c0 c1 c2 c3 c4 c5 c6 c7\ncode row column centre unsettled\n 3f800000 bf800000 3f800000 bf800000 bf800000 bf800000 bf800000 bf800000",
+        room,
+    );
+}
+
+// Lays every byte behind them.
+pub(crate) fn lay_bytes(room: &mut [u8; ROOM]) {
+    let mut i = 0;
+    while i < 256 {
+        room[LINES + i] = i as u8;
+        i += 1;
     }
 }
 
-// Puts `what`, and goes on in the text at `at`.
-fn append(what: &[u8], at: usize, room: &mut [u8], put: usize) -> Place
-    ensures { λ r. ⌜ r .at ≡ at ⌝ }
-{
-    if room.len() < put {
-        return bad(at);
-    }
-    if room.len() - put < what.len() {
-        return bad(at);
-    }
-    let n = bytes::copy(what, &mut room[put..]);
-    Place {
-        at: at,
-        put: put + n,
-        good: true,
+// Where what the escape with this letter stands for is laid.
+fn start(letter: u8) -> usize {
+    match letter {
+        b'n' => LINES + 10,
+        b'r' => LINES + 13,
+        b't' => LINES + 9,
+        b'0' => LINES,
+        b'\\' => LINES + 92,
+        b'x' => KNOWN,
+        b'N' => 0,
+        b'A' => 36,
+        b'C' => 69,
+        b'L' => 397,
+        _ => NOT,
     }
 }
 
-fn append_byte(byte: u8, at: usize, room: &mut [u8], put: usize) -> Place
-    ensures { λ r. ⌜ r .at ≡ at ⌝ }
+// How long what is laid there is: nothing behind all.
+fn size(from: usize) -> usize
+    ensures { λ r. ⌜ r ≤ 100000 ⌝ }
 {
-    let one = [byte];
-    append(&one, at, room, put)
-}
-
-fn append_ones(at: usize, room: &mut [u8], put: usize) -> Place
-    ensures { λ r. ⌜ r .at ≡ at ⌝ }
-{
-    let ones = [b'1'; 100000];
-    append(&ones, at, room, put)
-}
-
-// The byte whose two digits stand at `at`.
-fn by_digits(text: &[u8], at: usize, room: &mut [u8], put: usize) -> Place
-    requires { ⌜ at ≤ length (now text) ⌝ }
-    ensures { λ r. ⌜ at ≤ r .at ⌝ }
-{
-    if text.len() - at < 2 {
-        return bad(at);
+    match from {
+        0 => 36,
+        36 => 33,
+        69 => 72,
+        397 => 100000,
+        KNOWN => 0,
+        _ => 1,
     }
-    let byte = hex::pair(text, at);
+}
+
+// Where the byte with these digits is laid.
+fn by_digits(first: u8, second: u8) -> usize {
+    let digits = [first, second];
+    let byte = hex::pair(&digits, 0);
     if 255 < byte {
-        return bad(at);
+        return NOT;
     }
-    append_byte(byte as u8, at + 2, room, put)
+    LINES + byte as usize
 }
 
-fn short_form(letter: u8, at: usize, room: &mut [u8], put: usize) -> Place
-    ensures { λ r. ⌜ r .at ≡ at ⌝ }
+// Where an escape has come to: 0 outside of one, 1 behind its backslash, 2 behind its `x`, 3 and the byte behind its
+// first digit.
+fn next(state: u64, byte: u8) -> u64
+    ensures { λ r. ⌜ r ≤ 258 ⌝ }
 {
-    match letter {
-        b'N' => append(b"case config c0 c1 c2 c3 c4 c5 c6 c7\n", at, room, put),
-        b'A' => append(b"code row column centre unsettled\n", at, room, put),
-        b'C' => append(
-            b" 3f800000 bf800000 3f800000 bf800000 bf800000 bf800000 bf800000 bf800000",
-            at,
-            room,
-            put,
-        ),
-        b'L' => append_ones(at, room, put),
-        _ => bad(at),
+    if state == 0 && byte == b'\\' {
+        return 1;
     }
+    if state == 1 && byte == b'x' {
+        return 2;
+    }
+    if state == 2 {
+        return wide(byte) + 3;
+    }
+    0
 }
 
-// The escape whose letter stands at `at`.
-fn escape(text: &[u8], at: usize, room: &mut [u8], put: usize) -> Place
-    requires { ⌜ at < length (now text) ⌝ }
-    ensures { λ r. ⌜ at < r .at ⌝ }
+// Where what is to be put at this byte is laid: KNOWN where nothing is, and NOT where no escape goes on so.
+fn place(state: u64, byte: u8) -> usize
+    requires { ⌜ state ≤ 258 ⌝ }
 {
-    let letter = text[at];
-    let next = at + 1;
-    match letter {
-        b'n' => append_byte(10, next, room, put),
-        b'r' => append_byte(13, next, room, put),
-        b't' => append_byte(9, next, room, put),
-        b'0' => append_byte(0, next, room, put),
-        b'\\' => append_byte(b'\\', next, room, put),
-        b'x' => by_digits(text, next, room, put),
-        _ => short_form(letter, next, room, put),
+    if state == 1 {
+        return start(byte);
     }
+    if 2 < state {
+        return by_digits((state - 3) as u8, byte);
+    }
+    if state == 2 || byte == b'\\' {
+        return KNOWN;
+    }
+    LINES + wide(byte) as usize
 }
 
-// The byte at `at`, or the escape that begins there.
-fn step(text: &[u8], at: usize, room: &mut [u8], put: usize) -> Place
-    requires { ⌜ at < length (now text) ⌝ }
-    ensures { λ r. ⌜ at < r .at ⌝ }
+// Puts what is laid at `from`. How much is put then: NOT where there is no room for it.
+fn append(room: &mut [u8; ROOM], from: usize, put: usize) -> usize
+    ensures { λ r. ⌜ put ≤ r ⌝ }
 {
-    let byte = text[at];
-    let next = at + 1;
-    if byte != b'\\' {
-        return append_byte(byte, next, room, put);
+    if KNOWN < from {
+        return NOT;
     }
-    if next == text.len() {
-        return bad(next);
+    let n = size(from);
+    if ROOM - n < put {
+        return NOT;
     }
-    escape(text, next, room, put)
+    let mut i = 0;
+    while i < n {
+        room[put + i] = room[from + i];
+        i += 1;
+    }
+    put + n
 }
 
-pub(crate) fn decode(text: &[u8], room: &mut [u8]) -> Decoded {
-    let mut place = Place {
-        at: 0,
-        put: 0,
-        good: true,
-    };
-    while place.at < text.len() {
-        place = step(text, place.at, room, place.put);
-        if !place.good {
-            return Decoded::Not;
-        }
+// Decodes the text from `from` up to `to` behind what is put. How much is put then: NOT where an escape is none of
+// these, or the room too short.
+pub(crate) fn decode(
+    text: &[u8],
+    from: usize,
+    to: usize,
+    room: &mut [u8; ROOM],
+    put: usize,
+) -> usize
+    requires { ⌜ (from ≤ to) × (to ≤ length (now text)) ⌝ }
+    ensures { λ r. ⌜ put ≤ r ⌝ }
+{
+    let mut state: u64 = 0;
+    let mut at = from;
+    let mut n = put;
+    while at < to {
+        let byte = text[at];
+        n = append(room, place(state, byte), n);
+        state = next(state, byte);
+        at += 1;
     }
-    Decoded::Bytes(place.put)
+    if state == 0 {
+        return n;
+    }
+    NOT
 }

@@ -6,73 +6,55 @@
 mod decode;
 mod run;
 
+ghost use mathlib.Core.Path.{_≡_};
 ghost use Prim.Native.Nat.{_≤_};
-use decode::Decoded;
+ghost use lib.ListN.{length};
+use decode::KNOWN;
+use decode::ROOM;
 use libc::STDIN_FILENO;
 use libc::STDOUT_FILENO;
+use run::INPUT;
 
-// How many inputs and runs there were, and how many inputs differ.
+// The number of the line, how many inputs and runs there were, and how many inputs differ.
 struct Tally {
+    line: u64,
     inputs: u64,
     runs: u64,
     differ: u64,
 }
 
-// What a line comes to: a test with so many runs, and whether all agree; or no test.
-enum Seen {
-    Test(u64, bool),
-    Nothing,
-}
-
-// How many runs there were, and whether all agree.
+// How many runs a line came to, and whether all agree. A line that is no test has none, and all agree.
 struct Ran {
     runs: u64,
     good: bool,
 }
 
-// Whether the first `n` bytes of `out` are `expected`. Wipes them, so that no later run finds them there.
-fn take(out: &mut [u8], n: usize, expected: &[u8]) -> bool {
-    if n != expected.len() {
-        return false;
+fn told(good: bool) -> Ran {
+    Ran {
+        runs: 0,
+        good: good,
     }
-    if out.len() < n {
-        return false;
-    }
-    let mut good = true;
-    let mut i = 0;
-    while i < n {
-        good = good & (out[i] == expected[i]);
-        out[i] = 0;
-        i += 1;
-    }
-    good
 }
 
-fn agrees_in_two(input: &[u8], cut: usize, expected: &[u8], out: &mut [u8]) -> bool {
-    let n = run::in_two(input, cut, out);
-    take(out, n, expected)
-}
-
-fn agrees_in_bytes(input: &[u8], expected: &[u8], out: &mut [u8]) -> bool {
-    let n = run::in_bytes(input, out);
-    take(out, n, expected)
-}
-
-// Cut in two at every byte.
-fn cuts(input: &[u8], expected: &[u8], out: &mut [u8]) -> Ran
-    ensures { λ r. ⌜ r .runs ≤ 400 ⌝ }
+// The cuts in two that are tried stand before this place.
+fn cuts(n: usize) -> usize
+    ensures { λ r. ⌜ (r ≤ n) × (r ≤ 400) ⌝ }
 {
-    let mut good = true;
-    let mut runs: u64 = 0;
-    if 400 < input.len() {
-        return Ran {
-            runs: runs,
-            good: good,
-        };
+    if n <= 400 {
+        return n;
     }
+    0
+}
+
+// The test whose input is the first `n` bytes of `text`, and whose output is the rest.
+fn test(text: &[u8], n: usize) -> Ran
+    requires { ⌜ (n ≤ length (now text)) × (n ≤ 131072) ⌝ }
+{
+    let mut good = run::agrees(text, n, INPUT, INPUT) & run::agrees(text, n, 1, 1);
+    let mut runs: u64 = 2;
     let mut cut = 1;
-    while cut < input.len() {
-        good = agrees_in_two(input, cut, expected, out) & good;
+    while cut < cuts(n) {
+        good = run::agrees(text, n, cut, INPUT) & good;
         runs += 1;
         cut += 1;
     }
@@ -82,68 +64,52 @@ fn cuts(input: &[u8], expected: &[u8], out: &mut [u8]) -> Ran
     }
 }
 
-fn test(input: &[u8], expected: &[u8], out: &mut [u8]) -> Seen {
-    let whole = agrees_in_two(input, 0, expected, out);
-    let bytes = agrees_in_bytes(input, expected, out);
-    let cut = cuts(input, expected, out);
-    Seen::Test(cut.runs + 2, whole & bytes & cut.good)
-}
-
-fn is_arrow(line: &[u8], at: usize) -> bool {
-    if line.len() < 4 {
-        return false;
-    }
-    if line.len() - 4 < at {
-        return false;
-    }
-    (line[at] == b' ') & (line[at + 1] == b'=') & (line[at + 2] == b'>') & (line[at + 3] == b' ')
-}
-
-// Where the first ` => ` begins; the line's length where there is none.
-fn arrow(line: &[u8]) -> usize {
-    let mut at = 0;
-    while at < line.len() && !is_arrow(line, at) {
+// Where the text behind the first ` => ` begins; past the line where there is none.
+fn behind_arrow(file: &[u8], from: usize, to: usize) -> usize
+    requires { ⌜ (from ≤ to) × (to ≤ length (now file)) ⌝ }
+    ensures { λ r. ⌜ from ≤ r ⌝ }
+{
+    let mut four: u64 = 0;
+    let mut at = from;
+    while at < to {
+        four = (four % 0x1000000) * 256 + decode::wide(file[at]);
         at += 1;
+        if four == 0x203d3e20 {
+            return at;
+        }
     }
-    at
+    usize::MAX
 }
 
-// The test with these halves.
-fn halves(
-    left: &[u8],
-    right: &[u8],
-    input: &mut [u8],
-    expected: &mut [u8],
-    out: &mut [u8],
-) -> Seen {
-    let Decoded::Bytes(n) = decode::decode(left, input) else {
-        return Seen::Test(0, false);
-    };
-    let Decoded::Bytes(m) = decode::decode(right, expected) else {
-        return Seen::Test(0, false);
-    };
-    if input.len() < n || expected.len() < m {
-        return Seen::Test(0, false);
+// The test that is decoded behind what is known, its input up to `n` and its output up to `m`.
+fn decoded(room: &[u8], n: usize, m: usize) -> Ran
+    requires { ⌜ (length (now room) ≡ 231469) × ((100397 ≤ n) × (n ≤ m)) ⌝ }
+{
+    if room.len() < m {
+        return told(false);
     }
-    test(&input[0..n], &expected[0..m], out)
+    test(&room[KNOWN..m], n - KNOWN)
 }
 
-fn try_line(line: &[u8], input: &mut [u8], expected: &mut [u8], out: &mut [u8]) -> Seen {
-    if line.len() == 0 {
-        return Seen::Nothing;
+fn try_line(file: &[u8], from: usize, to: usize, room: &mut [u8; ROOM]) -> Ran
+    requires { ⌜ (from ≤ to) × (to ≤ length (now file)) ⌝ }
+{
+    if from == to {
+        return told(true);
     }
-    if line[0] == b'#' {
-        return Seen::Nothing;
+    if file[from] == b'#' {
+        return told(true);
     }
-    let at = arrow(line);
-    if line.len() < 4 {
-        return Seen::Test(0, false);
+    let behind = behind_arrow(file, from, to);
+    if to < behind {
+        return told(false);
     }
-    if line.len() - 4 < at {
-        return Seen::Test(0, false);
+    if behind - from < 4 {
+        return told(false);
     }
-    let from = at + 4;
-    halves(&line[0..at], &line[from..], input, expected, out)
+    let n = decode::decode(file, from, behind - 4, room, KNOWN);
+    let m = decode::decode(file, behind, to, room, n);
+    decoded(room, n, m)
 }
 
 fn print_line(number: u64) {
@@ -152,40 +118,35 @@ fn print_line(number: u64) {
     io::write_all(STDOUT_FILENO, b" differs\n");
 }
 
-fn counted(tally: Tally, number: u64, test: Seen) -> Tally {
-    let Seen::Test(runs, good) = test else {
-        return tally;
-    };
-    if !good {
-        print_line(number);
+fn counted(tally: Tally, ran: Ran) -> Tally {
+    if !ran.good {
+        print_line(tally.line);
     }
     Tally {
-        inputs: std::num::wrapping_add_u64(tally.inputs, 1),
-        runs: std::num::wrapping_add_u64(tally.runs, runs),
-        differ: std::num::wrapping_add_u64(tally.differ, !good as u64),
+        line: std::num::wrapping_add_u64(tally.line, 1),
+        inputs: std::num::wrapping_add_u64(tally.inputs, (!ran.good | (0 < ran.runs)) as u64),
+        runs: std::num::wrapping_add_u64(tally.runs, ran.runs),
+        differ: std::num::wrapping_add_u64(tally.differ, !ran.good as u64),
     }
 }
 
-fn all(file: &[u8], input: &mut [u8], expected: &mut [u8], out: &mut [u8]) -> Tally {
+fn all(file: &[u8], n: usize, room: &mut [u8; ROOM]) -> Tally
+    requires { ⌜ n ≤ length (now file) ⌝ }
+{
     let mut tally = Tally {
+        line: 1,
         inputs: 0,
         runs: 0,
         differ: 0,
     };
     let mut at = 0;
-    let mut number: u64 = 1;
-    while at < file.len() {
-        let end = bytes::scan::find(file, at, file.len(), b'\n');
-        tally = counted(
-            tally,
-            number,
-            try_line(&file[at..end], input, expected, out),
-        );
-        if end == file.len() {
+    while at < n {
+        let end = bytes::scan::find(file, at, n, b'\n');
+        tally = counted(tally, try_line(file, at, end, room));
+        if end == n {
             break;
         }
         at = end + 1;
-        number = std::num::wrapping_add_u64(number, 1);
     }
     tally
 }
@@ -199,19 +160,15 @@ fn report(tally: Tally) {
     io::write_all(STDOUT_FILENO, b" differ\n");
 }
 
-fn read_and_run(file: &mut [u8], input: &mut [u8], expected: &mut [u8], out: &mut [u8]) {
-    let n = io::read_full(STDIN_FILENO, file);
-    if n == file.len() {
+fn main() {
+    let mut file = [0u8; 65537];
+    let mut room = [b'1'; ROOM];
+    decode::lay_lines(&mut room);
+    decode::lay_bytes(&mut room);
+    let n = io::read_full(STDIN_FILENO, &mut file);
+    if n == 65537 {
         io::write_all(STDOUT_FILENO, b"more than 65,536 bytes of tests\n");
         return;
     }
-    report(all(&file[0..n], input, expected, out));
-}
-
-fn main() {
-    let mut file = [0u8; 65537];
-    let mut input = [0u8; 131072];
-    let mut expected = [0u8; 131072];
-    let mut out = [0u8; 131200];
-    read_and_run(&mut file, &mut input, &mut expected, &mut out);
+    report(all(&file, n, &mut room));
 }

@@ -1,97 +1,100 @@
-// One input through the library `text`, in blocks, as the program mc33 hands them to it.
+// One input through the library `text`, in blocks, as the program mc33 hands them to it. The input is what `text` has
+// up to `n`, and what it must give the rest.
+ghost use Prim.Native.Nat.{_+_, _≤_, _<_, _^_};
+ghost use lib.ListN.{length};
 
-// Where the part line that is left begins, how much is put, the line's number, and whether it was the end.
+// The longest input, and room for what a block of it gives.
+pub(crate) const INPUT: usize = 131072;
+
+pub(crate) const OUT: usize = 131200;
+
+// Where the part line that is left begins, its number, where the output has come to, and whether it was the end.
 struct Run {
     left: usize,
-    put: usize,
     number: u64,
+    seen: usize,
     over: bool,
 }
 
-// What is put in a run that found no room: more than any output has.
-const NO_ROOM: usize = usize::MAX;
-
-fn begun() -> Run {
-    Run {
-        left: 0,
-        put: 0,
-        number: 1,
-        over: false,
+// Where the output ends that goes on with the first `n` bytes of `out`; past all text where it is another. Wipes
+// them, so that no later block finds them there.
+fn take(out: &mut [u8; OUT], n: usize, text: &[u8], seen: usize) -> usize
+    requires { ⌜ n ≤ 131200 ⌝ }
+{
+    if text.len() < seen {
+        return usize::MAX;
     }
+    if text.len() - seen < n {
+        return usize::MAX;
+    }
+    let mut good = true;
+    let mut i = 0;
+    while i < n {
+        good = good & (out[i] == text[seen + i]);
+        out[i] = 0;
+        i += 1;
+    }
+    if good {
+        return seen + n;
+    }
+    usize::MAX
 }
 
-fn lost() -> Run {
+// The block up to `to`, behind the part line that is left.
+fn block(run: Run, text: &[u8], to: usize, out: &mut [u8; OUT]) -> Run
+    requires { ⌜ (run .left ≤ to) × ((to ≤ length (now text)) × ((to ≤ 131072) × (run .number ≤ 2 ^ 63))) ⌝ }
+    ensures { λ r. ⌜ (r .left ≤ to) × (r .number ≤ run .number + 131072) ⌝ }
+{
+    let left = run.left;
+    let done = text::answer_block(&text[left..to], run.number, out);
     Run {
-        left: 0,
-        put: NO_ROOM,
-        number: 0,
-        over: true,
-    }
-}
-
-// The input's part from `from` up to `to`, where there is room for it.
-fn answer(input: &[u8], from: usize, to: usize, number: u64, out: &mut [u8], put: usize) -> Run {
-    if to < from || input.len() < to || out.len() < put {
-        return lost();
-    }
-    let n = to - from;
-    let room = out.len() - put;
-    if room < 64 {
-        return lost();
-    }
-    if room - 64 < n {
-        return lost();
-    }
-    if u64::MAX - number < n as u64 {
-        return lost();
-    }
-    let done = text::answer_block(&input[from..to], number, &mut out[put..]);
-    Run {
-        left: from + done.left,
-        put: put + done.put,
+        left: left + done.left,
         number: done.number,
+        seen: take(out, done.put, text, run.seen),
         over: done.over,
     }
 }
 
-// The block from `from` up to `to`, behind the part line that is left. An empty one is none.
-fn block(run: Run, input: &[u8], from: usize, to: usize, out: &mut [u8]) -> Run {
-    if run.over || from == to {
-        return run;
-    }
-    answer(input, run.left, to, run.number, out, run.put)
-}
-
-// The input's end: how many bytes are put in all.
-fn end(run: Run, input: &[u8], out: &mut [u8]) -> usize {
-    let left = run.left;
-    let put = run.put;
+// Whether all the output was seen, the input's end among it.
+fn ended(run: Run, text: &[u8], n: usize, out: &mut [u8; OUT]) -> bool
+    requires { ⌜ (run .left ≤ n) × (n ≤ length (now text)) ⌝ }
+{
     if run.over {
-        return put;
+        return run.seen == text.len();
     }
-    if input.len() < left || out.len() < put {
-        return NO_ROOM;
-    }
-    if out.len() - put < 64 {
-        return NO_ROOM;
-    }
-    put + text::finish(&input[left..], run.number, &mut out[put..])
+    let left = run.left;
+    let put = text::finish(&text[left..n], run.number, out);
+    take(out, put, text, run.seen) == text.len()
 }
 
-// As two blocks, the first of `cut` bytes; as one where `cut` is 0.
-pub(crate) fn in_two(input: &[u8], cut: usize, out: &mut [u8]) -> usize {
-    let first = block(begun(), input, 0, cut, out);
-    let second = block(first, input, cut, input.len(), out);
-    end(second, input, out)
+// Where a block of `size` bytes from `at` on ends.
+fn cut(at: usize, size: usize, n: usize) -> usize
+    requires { ⌜ (at < n) × (1 ≤ size) ⌝ }
+    ensures { λ r. ⌜ (at < r) × (r ≤ n) ⌝ }
+{
+    if n - at < size {
+        return n;
+    }
+    at + size
 }
 
-// A byte at a time.
-pub(crate) fn in_bytes(input: &[u8], out: &mut [u8]) -> usize {
-    let mut run = begun();
-    let mut to = 0;
-    while to < input.len() && !run.over {
-        run = block(run, input, to, to + 1, out);
-        to += 1;
+// Whether the input gives its output in blocks, the first of `first` bytes and the others of `each`.
+pub(crate) fn agrees(text: &[u8], n: usize, first: usize, each: usize) -> bool
+    requires { ⌜ (n ≤ length (now text)) × ((n ≤ 131072) × ((1 ≤ first) × (1 ≤ each))) ⌝ }
+{
+    let mut out = [0u8; OUT];
+    let mut run = Run {
+        left: 0,
+        number: 1,
+        seen: n,
+        over: false,
+    };
+    let mut at = 0;
+    let mut size = first;
+    while at < n && !run.over {
+        at = cut(at, size, n);
+        run = block(run, text, at, &mut out);
+        size = each;
     }
-    end(run, input, out)
+    ended(run, text, n, &mut out)
 }

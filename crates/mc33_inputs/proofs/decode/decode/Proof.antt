@@ -1,28 +1,32 @@
--- `mc33_inputs::decode::decode` is safe and ends: each step goes on in the text. Assumes nothing.
-use mathlib.Core.Path.{_≡_}
-use Prim.Native.Nat.{_-_}
-use lib.ListN.{length}
+-- `mc33_inputs::decode::decode` is safe and ends: each turn passes a byte. Assumes nothing.
+use Prim.Native.Nat.{_-_, _≤_}
 use borrow.Author.Needs.{needs}
 use Rattle.mc33_inputs.proofs.decode.decode.Statement.{statement}
 use Rattle.mc33_inputs.proofs.decode.decode.Tie as tie
 
 abbrev Inv-loop : tie.InvT-loop
-Inv-loop text room₀ place₀ room place = length room ≡ length room₀
+Inv-loop text from to room₀ put state₀ at₀ n₀ room state at n = (at ≤ to) × ((put ≤ n) × (state ≤ 258))
 
 abbrev μ-loop : tie.MeasureT-loop
-μ-loop text room₀ place₀ room place = length text - place .at
+μ-loop text from to room₀ put state₀ at₀ n₀ room state at n = to - at
 
 loop-holds : tie.Need-loop-holds Inv-loop μ-loop
 loop-holds c = search needs
 
-step-requires : tie.Need-step-requires Inv-loop μ-loop
-step-requires c κs = search needs
+shared-slice-read-byte : tie.Need-shared-slice-read-byte Inv-loop μ-loop
+shared-slice-read-byte c = search needs
 
-same-length : tie.Need-same-length Inv-loop μ-loop
-same-length c = search needs
+place-requires : tie.Need-place-requires Inv-loop μ-loop
+place-requires c κs = search needs
 
-returns : tie.Need-returns Inv-loop μ-loop
-returns c = search needs
+append-requires : tie.Need-append-requires Inv-loop μ-loop
+append-requires c κs = search needs
+
+next-requires : tie.Need-next-requires Inv-loop μ-loop
+next-requires c κs = search needs
+
+add-at : tie.Need-add-at Inv-loop μ-loop
+add-at c = search needs
 
 loop-less : tie.Need-loop-less Inv-loop μ-loop
 loop-less c = search needs
@@ -30,8 +34,8 @@ loop-less c = search needs
 loop-again : tie.Need-loop-again Inv-loop μ-loop
 loop-again c = search needs
 
-same-length-2 : tie.Need-same-length-2 Inv-loop μ-loop
-same-length-2 c = search needs
+returns : tie.Need-returns Inv-loop μ-loop
+returns c = search needs
 
 returns-2 : tie.Need-returns-2 Inv-loop μ-loop
 returns-2 c = search needs
@@ -43,10 +47,12 @@ decode-spec =
     Inv-loop
     μ-loop
     loop-holds
-    step-requires
-    same-length
-    returns
+    shared-slice-read-byte
+    place-requires
+    append-requires
+    next-requires
+    add-at
     loop-less
     loop-again
-    same-length-2
+    returns
     returns-2)
