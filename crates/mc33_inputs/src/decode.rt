@@ -22,9 +22,7 @@ pub(crate) fn wide(byte: u8) -> u64
 }
 
 // Lays the names lines and the corners.
-pub(crate) fn lay_lines(room: &mut [u8])
-    requires { ⌜ 141 ≤ length (now room) ⌝ }
-{
+pub(crate) fn lay_lines(room: &mut [u8; ROOM]) {
     bytes::copy(
         b"case config c0 c1 c2 c3 c4 c5 c6 c7\ncode row column centre unsettled\n 3f800000 bf800000 3f800000 bf800000 bf800000 bf800000 bf800000 bf800000",
         room,

@@ -15,6 +15,9 @@ use libc::STDIN_FILENO;
 use libc::STDOUT_FILENO;
 use run::INPUT;
 
+// Room for the tests, and one byte more.
+const FILE: usize = 65537;
+
 // The number of the line, how many inputs and runs there were, and how many inputs differ.
 struct Tally {
     line: u64,
@@ -130,8 +133,8 @@ fn counted(tally: Tally, ran: Ran) -> Tally {
     }
 }
 
-fn all(file: &[u8], n: usize, room: &mut [u8; ROOM]) -> Tally
-    requires { ⌜ n ≤ length (now file) ⌝ }
+fn all(file: &[u8; FILE], n: usize, room: &mut [u8; ROOM]) -> Tally
+    requires { ⌜ n ≤ 65537 ⌝ }
 {
     let mut tally = Tally {
         line: 1,
@@ -160,13 +163,20 @@ fn report(tally: Tally) {
     io::write_all(STDOUT_FILENO, b" differ\n");
 }
 
+fn read(file: &mut [u8; FILE]) -> usize
+    ensures { λ r. ⌜ r ≤ 65537 ⌝ }
+{
+    io::read_full(STDIN_FILENO, file)
+}
+
+// The arrays are lent as arrays: lent as slices their bytes would be counted in the proof.
 fn main() {
-    let mut file = [0u8; 65537];
+    let mut file = [0u8; FILE];
     let mut room = [b'1'; ROOM];
     decode::lay_lines(&mut room);
     decode::lay_bytes(&mut room);
-    let n = io::read_full(STDIN_FILENO, &mut file);
-    if n == 65537 {
+    let n = read(&mut file);
+    if n == FILE {
         io::write_all(STDOUT_FILENO, b"more than 65,536 bytes of tests\n");
         return;
     }
