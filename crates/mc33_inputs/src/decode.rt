@@ -7,6 +7,7 @@ ghost use lib.ListN.{length};
 // The two names lines and the corners, every byte, and 100,000 bytes '1': behind these the tests are decoded.
 pub(crate) const KNOWN: usize = 100397;
 
+// Room for these and for a test: its input and its output have up to 131,072 bytes together.
 pub(crate) const ROOM: usize = 231469;
 
 // How long the names lines and the corners are.
