@@ -10,8 +10,14 @@ pub(crate) const KNOWN: usize = 100397;
 // Room for these and for a test: its input and its output have up to 131,072 bytes together.
 pub(crate) const ROOM: usize = 231469;
 
-// How long the names lines and the corners are.
-const LINES: usize = 141;
+// Where the output's names line, the corners, every byte and the bytes '1' begin.
+const ANSWER_NAMES: usize = 36;
+
+const CORNERS: usize = 69;
+
+const BYTES: usize = 141;
+
+const ONES: usize = 397;
 
 // More than any room.
 const NOT: usize = usize::MAX;
@@ -34,7 +40,7 @@ pub(crate) fn lay_lines(room: &mut [u8; ROOM]) {
 pub(crate) fn lay_bytes(room: &mut [u8; ROOM]) {
     let mut i = 0;
     while i < 256 {
-        room[LINES + i] = i as u8;
+        room[BYTES + i] = i as u8;
         i += 1;
     }
 }
@@ -42,16 +48,16 @@ pub(crate) fn lay_bytes(room: &mut [u8; ROOM]) {
 // Where what the escape with this letter stands for is laid.
 fn start(letter: u8) -> usize {
     match letter {
-        b'n' => LINES + 10,
-        b'r' => LINES + 13,
-        b't' => LINES + 9,
-        b'0' => LINES,
-        b'\\' => LINES + 92,
+        b'n' => BYTES + 10,
+        b'r' => BYTES + 13,
+        b't' => BYTES + 9,
+        b'0' => BYTES,
+        b'\\' => BYTES + 92,
         b'x' => KNOWN,
         b'N' => 0,
-        b'A' => 36,
-        b'C' => 69,
-        b'L' => 397,
+        b'A' => ANSWER_NAMES,
+        b'C' => CORNERS,
+        b'L' => ONES,
         _ => NOT,
     }
 }
@@ -61,10 +67,10 @@ fn size(from: usize) -> usize
     ensures { λ r. ⌜ r ≤ 100000 ⌝ }
 {
     match from {
-        0 => 36,
-        36 => 33,
-        69 => 72,
-        397 => 100000,
+        0 => ANSWER_NAMES,
+        ANSWER_NAMES => CORNERS - ANSWER_NAMES,
+        CORNERS => BYTES - CORNERS,
+        ONES => KNOWN - ONES,
         KNOWN => 0,
         _ => 1,
     }
@@ -77,7 +83,7 @@ fn by_digits(first: u8, second: u8) -> usize {
     if 255 < byte {
         return NOT;
     }
-    LINES + byte as usize
+    BYTES + byte as usize
 }
 
 // Where an escape has come to: 0 outside of one, 1 behind its backslash, 2 behind its `x`, 3 and the byte behind its
@@ -110,7 +116,7 @@ fn place(state: u64, byte: u8) -> usize
     if state == 2 || byte == b'\\' {
         return KNOWN;
     }
-    LINES + wide(byte) as usize
+    BYTES + wide(byte) as usize
 }
 
 // Puts what is laid at `from`. How much is put then: NOT where there is no room for it.
