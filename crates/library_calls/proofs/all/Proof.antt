@@ -1,10 +1,10 @@
--- `library_lists::all` is safe and ends: each turn passes a line.
+-- `library_calls::all` is safe and ends: each turn passes a line.
 use mathlib.Core.Path.{_≡_}
 use Prim.Native.Nat.{_-_, _≤_}
 use lib.ListN.{length}
 use borrow.Author.Needs.{needs}
-use Rattle.library_lists.proofs.all.Statement.{statement}
-use Rattle.library_lists.proofs.all.Tie as tie
+use Rattle.library_calls.proofs.all.Statement.{statement}
+use Rattle.library_calls.proofs.all.Tie as tie
 
 abbrev Inv-loop : tie.InvT-loop
 Inv-loop file corners₀ numbers₀ n₀ at₀ corners numbers n at = (length corners ≡ length corners₀) × ((length numbers ≡ length numbers₀) × (at ≤ length file))

@@ -1,10 +1,10 @@
--- `library_lists::put_values` is safe and ends: there is room for eight values.
+-- `library_calls::put_values` is safe and ends: there is room for eight values.
 use mathlib.Core.Path.{_≡_}
 use Prim.Native.Nat.{_-_, _≤_}
 use lib.ListN.{length}
 use borrow.Author.Needs.{needs}
-use Rattle.library_lists.proofs.put_values.Statement.{statement}
-use Rattle.library_lists.proofs.put_values.Tie as tie
+use Rattle.library_calls.proofs.put_values.Statement.{statement}
+use Rattle.library_calls.proofs.put_values.Tie as tie
 
 abbrev Inv-loop : tie.InvT-loop
 Inv-loop values corners₀ at i₀ corners i = (i ≤ 8) × (length corners ≡ length corners₀)

@@ -1,8 +1,8 @@
--- `choice_cubes::halves` is safe and ends: the number goes up to 255.
+-- `library_calls::code` is safe and ends: the number goes up to 255.
 use Prim.Native.Nat.{_-_, _≤_}
 use borrow.Author.Needs.{needs}
-use Rattle.choice_cubes.proofs.halves.Statement.{statement}
-use Rattle.choice_cubes.proofs.halves.Tie as tie
+use Rattle.library_calls.proofs.code.Statement.{statement}
+use Rattle.library_calls.proofs.code.Tie as tie
 
 abbrev Inv-loop : tie.InvT-loop
 Inv-loop x n₀ n = n ≤ 255
@@ -31,7 +31,7 @@ returns c = search needs
 returns-2 : tie.Need-returns-2 Inv-loop μ-loop
 returns-2 c = search needs
 
-pub halves-spec : {M : Type 1} → statement M
-halves-spec =
+pub code-spec : {M : Type 1} → statement M
+code-spec =
     tie.close
     (tie.spec Inv-loop μ-loop loop-holds int-to-float-if1 add-n loop-less loop-again returns returns-2)

@@ -1,12 +1,12 @@
--- `library_lists::put_numbers` is safe.
+-- `library_calls::put_numbers` is safe.
 use native.Mathlib.Omega.{arith}
 use lib.ListN.{length-set}
 use borrow.Author.Needs.{needs}
 use native.Mathlib.Omega.{arith}
 use lib.ListN.{length-set}
 use borrow.Author.Needs.{needs}
-use Rattle.library_lists.proofs.put_numbers.Statement.{statement}
-use Rattle.library_lists.proofs.put_numbers.Tie as tie
+use Rattle.library_calls.proofs.put_numbers.Statement.{statement}
+use Rattle.library_calls.proofs.put_numbers.Tie as tie
 
 slice-set-from-k : tie.Need-slice-set-from-k
 slice-set-from-k c = search needs

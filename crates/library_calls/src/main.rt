@@ -9,7 +9,7 @@
 // answer its numbers are printed in their order, and behind a list's the answer bytes; for a value x there stands
 // 2 × x + 100, or 255 where that is no whole number from 0 to 254.
 //
-// The answers in `stdout` come from outside, by oracle/library_lists.py, which knows nothing of this code: choices are
+// The answers in `stdout` come from outside, by oracle/library_calls.py, which knows nothing of this code: choices are
 // document 01's own for its cubes and the Rust's for the cubes of mc33's sample; lists, refusals, faces, readings and
 // roots are worked out from document 01's text.
 ghost use Prim.Native.Nat.{_+_, _<_, _≤_};

@@ -1,7 +1,7 @@
-"""The calls that crates/library_lists makes, and their answers, from outside:
+"""The calls that crates/library_calls makes, and their answers, from outside:
 
-    python3 oracle/library_lists.py calls > crates/library_lists/stdin
-    python3 oracle/library_lists.py answers > crates/library_lists/stdout
+    python3 oracle/library_calls.py calls > crates/library_calls/stdin
+    python3 oracle/library_calls.py answers > crates/library_calls/stdout
 
 Choices are document 01's own for its cubes to check by hand, and the Rust's for the cubes of mc33's sample, from
 crates/mc33/stdin and stdout. Lists, refusals, face tests, edge readings and roots are worked out here from document

@@ -1,9 +1,9 @@
--- `library_lists::print_bytes` is safe and ends.
+-- `library_calls::print_bytes` is safe and ends.
 use Prim.Native.Nat.{_-_, _≤_}
 use lib.ListN.{length}
 use borrow.Author.Needs.{needs}
-use Rattle.library_lists.proofs.print_bytes.Statement.{statement}
-use Rattle.library_lists.proofs.print_bytes.Tie as tie
+use Rattle.library_calls.proofs.print_bytes.Statement.{statement}
+use Rattle.library_calls.proofs.print_bytes.Tie as tie
 
 abbrev Inv-loop : tie.InvT-loop
 Inv-loop bytes i₀ t3 i = i ≤ length bytes
