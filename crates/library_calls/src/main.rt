@@ -1,5 +1,5 @@
-// Calls the functions of the C interface and prints what they answer. Standard input has a call a line; a line
-// with a cube has it as the text program's lines do, behind a letter and a space:
+// Calls the functions of the C interface and prints what they answer: first the version, as `v` and the number.
+// Then standard input has a call a line; a line with a cube has it as the text program's lines do, behind a letter and a space:
 //   c: `mc33_choose`, by the case and the configuration; the cube is held, behind those held before
 //   f: `mc33_face`, and e: `mc33_edge`, of the number that stands for the case
 //   r: `mc33_root` of c0, and `mc33_root_bits` of its bits
@@ -205,8 +205,15 @@ fn all(file: &[u8], corners: &mut [f32], numbers: &mut [i8]) {
     }
 }
 
+fn version() {
+    io::write_all(1, b"v");
+    print_number(mc33_c::mc33_version() as u64);
+    io::write_all(1, b"\n");
+}
+
 // Room for 300 cubes.
 fn main() {
+    version();
     let mut file = [0u8; 65536];
     let mut corners = [0.0f32; 2400];
     let mut numbers = [0i8; 600];

@@ -14,6 +14,7 @@ ghost use Rattle.choice.specs.Choice.{choiceOf};
 ghost use lib.ListN.{length};
 ghost use Rattle.list.specs.Lists.{resultOf, answersOf};
 ghost use Rattle.list.specs.Results.{result};
+ghost use Rattle.mc33_c.specs.Version.{version};
 ghost use Rattle.mc33_c.specs.Answers.{answered, choiceNumbers, faceNumbers, readAs, readingNumbers, edgeNumbers, outcomeNumbers};
 use cube::Cube;
 use cube::EdgeNo;
@@ -59,6 +60,14 @@ pub struct Mc33Edge {
 pub struct Mc33Outcome {
     pub refusal: u64,
     pub place: u64,
+}
+
+// The version of the library, as include/mc33.h has it: 1000 × major + minor.
+#[no_mangle]
+pub extern "C" fn mc33_version() -> u32
+    ensures { λ r. ⌜ r ≡ version ⌝ }
+{
+    1000
 }
 
 // The f32 square root of x: the nearest value. A NaN has no pattern of its own here.

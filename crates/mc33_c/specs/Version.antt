@@ -1,0 +1,13 @@
+-- The version of the static library, as include/mc33.h has it. Definitions only.
+use Prim.Native.Nat.{ℕ, _+_, _*_}
+
+-- moves where a caller that was built before would read something wrongly
+abbrev pub major : ℕ
+major = 1
+
+-- moves where something is added
+abbrev pub minor : ℕ
+minor = 0
+
+abbrev pub version : ℕ
+version = 1000 * major + minor
