@@ -48,20 +48,20 @@ static void print_outcome(mc33_outcome outcome)
 /* Three cubes; each answer byte is 7 beforehand. */
 static void print_list(const float *corners, const int8_t *numbers)
 {
-    uint8_t answers[12];
+    uint8_t answers[3 * MC33_ROW_BYTES];
     size_t i;
     memset(answers, 7, sizeof answers);
     print_outcome(mc33_list(corners, 24, numbers, 6, answers, sizeof answers));
     for (i = 0; i < sizeof answers; i++)
-        printf("%d%c", answers[i], i % 4 == 3 ? '\n' : ' ');
+        printf("%d%c", answers[i], (i + 1) % MC33_ROW_BYTES ? ' ' : '\n');
 }
 
 int main(void)
 {
-    mc33_cube tied = {1, -1, 1, -1, -1, -1, -1, -1};
-    mc33_cube apart = {1, -2, 1, -2, -1, -1, -1, -1};
-    mc33_cube level = {3, -1, -1, -1, -1, -1, 3, -1};
-    mc33_cube steep = {9, -1, -1, -1, -1, -1, 9, -1};
+    mc33_cube tied = {{1, -1, 1, -1, -1, -1, -1, -1}};
+    mc33_cube apart = {{1, -2, 1, -2, -1, -1, -1, -1}};
+    mc33_cube level = {{3, -1, -1, -1, -1, -1, 3, -1}};
+    mc33_cube steep = {{9, -1, -1, -1, -1, -1, 9, -1}};
     float corners[] = {
         1, -1, 1, -1, -1, -1, -1, -1,
         3, -1, -1, -1, -1, -1, 3, -1,
@@ -69,6 +69,10 @@ int main(void)
     };
     int8_t numbers[] = {3, 0, 4, 0, 13, 0};
 
+    if (mc33_version() / 1000 != MC33_VERSION_MAJOR) {
+        fprintf(stderr, "the library is of version %d\n", (int)mc33_version());
+        return 2;
+    }
     print_choice(3, 0, tied);
     print_choice(3, 0, apart);
     print_choice(4, 0, level);

@@ -1,30 +1,30 @@
 #!/usr/bin/env bash
-# Builds the static library target/staticlib/libmc33_c.a and, of it, the shared object libmc33.so beside it, then
-# runs the examples in C (as C++ too), Rust and Python, and the tests of the Rust crate. What the examples print is held to
-# routines.txt and list.txt beside this file; Python's has the list alone.
+# Puts the library under a prefix in target/, builds the example in C from there (with the archive, as C++ too, and with
+# the shared object by pkg-config), runs it and those in Rust and Python, and holds what each prints to routines.txt and
+# list.txt beside this file.
 set -euo pipefail
 cd "$(dirname "$0")/.."
-built=target/staticlib
 out=target/examples
+prefix=$PWD/$out/prefix
 mkdir -p "$out"
+./install.sh "$prefix"
 
-rt staticlib mc33_c > "$out/staticlib.log" 2>&1 || { cat "$out/staticlib.log"; exit 1; }
-gcc -shared -Wl,-z,defs -Wl,--whole-archive "$built/libmc33_c.a" -Wl,--no-whole-archive -o "$built/libmc33.so"
+strict=(-O2 -Wall -Wextra -pedantic -Werror "-I$prefix/include")
+gcc -std=c99 "${strict[@]}" examples/choose.c "$prefix/lib/libmc33_c.a" -o "$out/choose_c"
+g++ -std=c++98 "${strict[@]}" -x c++ examples/choose.c -x none "$prefix/lib/libmc33_c.a" -o "$out/choose_cc"
+read -ra flags <<< "$(PKG_CONFIG_PATH=$prefix/lib/pkgconfig pkg-config --cflags --libs mc33)"
+gcc -std=c99 "${strict[@]}" examples/choose.c "${flags[@]}" -o "$out/choose_so"
 
-# held NAME COMMAND..: what the command prints is what stands in standard input.
+# held NAME COMMAND..: the command prints the two files.
 held() {
     "${@:2}" > "$out/$1.out"
-    diff - "$out/$1.out"
+    cat examples/routines.txt examples/list.txt | diff - "$out/$1.out"
     echo "$1: as expected"
 }
 
-strict=(-O2 -Wall -Wextra -pedantic -Werror -Iinclude)
-gcc -std=c99 "${strict[@]}" examples/choose.c "$built/libmc33_c.a" -o "$out/choose_c"
-g++ -std=c++98 "${strict[@]}" -x c++ examples/choose.c -x none "$built/libmc33_c.a" -o "$out/choose_cc"
 export CARGO_TARGET_DIR="$PWD/target/rust"
-cargo test --quiet --offline --manifest-path rust/Cargo.toml
-
-cat examples/routines.txt examples/list.txt | held c "$out/choose_c"
-cat examples/routines.txt examples/list.txt | held c++ "$out/choose_cc"
-cat examples/routines.txt examples/list.txt | held rust cargo run --quiet --offline --manifest-path rust/Cargo.toml --example choose
-held python python3 python/choose.py < examples/list.txt
+held c "$out/choose_c"
+held c++ "$out/choose_cc"
+held shared env LD_LIBRARY_PATH="$prefix/lib" "$out/choose_so"
+held rust cargo run --quiet --offline --manifest-path rust/Cargo.toml --example choose
+held python python3 python/choose.py

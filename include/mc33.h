@@ -1,7 +1,28 @@
 /* The C interface of Pizkurma, a proved chooser for Marching Cubes 33.
  *
- * Link with libmc33_c.a (x86-64 Linux). Nothing here allocates, keeps anything between calls or touches memory
- * other than what it is lent, so any number of threads may call at once.
+ *            7 --------- 6        z  y       corner  0 1 2 3 4 5 6 7
+ *           /|          /|        | /             x  0 1 1 0 0 1 1 0
+ *          4 --------- 5 |        |/              y  0 0 1 1 0 0 1 1
+ *          | |         | |        +--- x          z  0 0 0 0 1 1 1 1
+ *          | 3 --------|-2
+ *          |/          |/       face 1 is y = 0, 2 is x = 1, 3 is y = 1,
+ *          0 --------- 1             4 is x = 0, 5 is z = 0, 6 is z = 1
+ *
+ * The sign rule: a corner is in a cube's set where its value is above 0. Case and configuration are those of the set,
+ * and the tables' triangles part the corners in the set from the others. A field that is below 0 inside is turned
+ * round first: give its values with the other sign. docs/USING.md goes from a grid of distances to a mesh.
+ *
+ * Codes of a choice, with the names of their tables (mc33_tiling_name):
+ *
+ *     1 1      7 5       13 7_3     19 10_1_1_  25 12_1_1_  31 13_2    37 13_5_2
+ *     2 2      8 6_1_1   14 7_4_1   20 10_1_2   26 12_1_2   32 13_2_   38 14
+ *     3 3_1    9 6_1_2   15 7_4_2   21 10_2     27 12_2     33 13_3
+ *     4 3_2   10 6_2     16 8       22 10_2_    28 12_2_    34 13_3_    0 empty
+ *     5 4_1   11 7_1     17 9       23 11       29 13_1     35 13_4   255 no tiling
+ *     6 4_2   12 7_2     18 10_1_1  24 12_1_1   30 13_1_    36 13_5_1
+ *
+ * Link with libmc33_c.a, or with libmc33.so (x86-64 Linux). Nothing here allocates, keeps anything between calls or
+ * touches memory other than what it is lent, so any number of threads may call at once.
  *
  * Every function takes any numbers of its types; C cuts a larger int to int8_t without a word. What a function cannot
  * answer it refuses, with one of the numbers below: `refusal` is 0 where there is an answer, and where there is none
@@ -16,9 +37,19 @@
 extern "C" {
 #endif
 
+/* The version of this header. The major number moves where a caller that was built before would read something
+ * wrongly: the bytes of a row, the layout of a record, the meaning of a number; the shared object's name has it, as
+ * libmc33.so.1. The minor number moves where something is added: a function, or a refusal's number, so keep a
+ * `default` in a switch over refusals. */
+#define MC33_VERSION_MAJOR 1
+#define MC33_VERSION_MINOR 0
+#define MC33_VERSION (1000 * MC33_VERSION_MAJOR + MC33_VERSION_MINOR)
+
+/* MC33_VERSION of the library that is linked. With another major number than this header's nothing else here holds. */
+uint32_t mc33_version(void);
+
 /* Refusals. Order: a choice 1, 2, 3; a face test 4, 3; an edge reading 5, 3; a list 6, 7, then its cubes from the
- * first, each 1, 2, 3. 8 is the text program's, for a malformed line, and 9, an inner index outside its table, is
- * proved never to be given. */
+ * first, each 1, 2, 3. 8 is the text program's, and 9 is proved never to be given. mc33_refusal_text has the words. */
 enum {
     MC33_ANSWERED = 0,
     MC33_NO_CASE = 1,          /* the case is below 0 or above 14 */
@@ -27,18 +58,21 @@ enum {
     MC33_NO_FACE = 4,          /* the face number is not -6..-1 or 1..6 */
     MC33_NO_EDGE = 5,          /* the edge number is not 0..11 */
     MC33_UNEVEN_LISTS = 6,     /* a list without 8 corner values and 2 numbers a cube */
-    MC33_NO_ROOM = 7           /* a list with fewer than 4 answer bytes a cube */
+    MC33_NO_ROOM = 7,          /* a list with fewer than MC33_ROW_BYTES answer bytes a cube */
+    MC33_MALFORMED = 8,        /* the text program: a line that is malformed */
+    MC33_OUTSIDE_TABLE = 9     /* an inner index outside its table */
 };
 
-/* Codes of a choice that is no tiling; tilings have 1 to 38. */
+/* Codes of a choice that is no tiling; tilings have 1 to MC33_TILINGS. */
 enum {
     MC33_EMPTY = 0,
+    MC33_TILINGS = 38,
     MC33_NO_TILING = 255
 };
 
 /* The values at corners 0 to 7. */
 typedef struct {
-    float c0, c1, c2, c3, c4, c5, c6, c7;
+    float c[8];
 } mc33_cube;
 
 /* A choice: code, row and column of the tiling, 1 where it is drawn with the centre, and how many edge readings had
@@ -78,7 +112,7 @@ mc33_choice mc33_choose(int8_t case_number, int8_t configuration, mc33_cube cube
 /* Tests a face: -6..-1 or 1..6. */
 mc33_face_answer mc33_face(mc33_cube cube, int8_t face);
 
-/* Reads an edge: 0..11. */
+/* Reads an edge: 0..11. These numbers are not those of the tilings' edges. */
 mc33_edge_reading mc33_edge(mc33_cube cube, int8_t edge);
 
 /* The f32 square root, the nearest value: a NaN for a NaN and below zero, each zero and +infinity for itself. */
@@ -87,12 +121,51 @@ float mc33_root(float x);
 /* The same on bit patterns. The root of a NaN and of a value below zero is always 7fc00000. */
 uint32_t mc33_root_bits(uint32_t bits);
 
-/* Chooses for a list of cubes: 8 corner values a cube, 2 numbers a cube (case and configuration), and 4 answer bytes
- * a cube: code, row, column, centre + 2 * unsettled. Bytes past the last cube's stay as they are. A refused list has
- * every answer byte unchanged. Lengths are counted in values, numbers and bytes; where one is 0 its pointer may be
- * null. The answers may not overlap the corners or the numbers. */
+/* A cube's answer bytes in a list. */
+#define MC33_ROW_BYTES 4
+
+/* Chooses for a list of cubes: 8 corner values a cube, 2 numbers a cube (case and configuration), and MC33_ROW_BYTES
+ * answer bytes a cube: code, row, column, centre + 2 * unsettled. Bytes past the last cube's stay as they are. A
+ * refused list has every answer byte unchanged. Lengths are counted in values, numbers and bytes; where one is 0 its
+ * pointer may be null. The answers may not overlap the corners or the numbers. */
 mc33_outcome mc33_list(const float *corners, size_t corners_length, const int8_t *numbers, size_t numbers_length,
                        uint8_t *answers, size_t answers_length);
+
+/* A refusal in words; 0 too, and a number that this header does not know. */
+static inline const char *mc33_refusal_text(uint64_t refusal)
+{
+    switch (refusal) {
+    case MC33_ANSWERED: return "answered";
+    case MC33_NO_CASE: return "the case is below 0 or above 14";
+    case MC33_NO_CONFIGURATION: return "the configuration is not one of the case's";
+    case MC33_NOT_FINITE: return "a corner is a NaN or infinite";
+    case MC33_NO_FACE: return "the face number is not -6..-1 or 1..6";
+    case MC33_NO_EDGE: return "the edge number is not 0..11";
+    case MC33_UNEVEN_LISTS: return "the list has not 8 corner values and 2 numbers a cube";
+    case MC33_NO_ROOM: return "the list has fewer than 4 answer bytes a cube";
+    case MC33_MALFORMED: return "the line is malformed";
+    case MC33_OUTSIDE_TABLE: return "an inner index is outside its table";
+    default: return "a refusal that this version does not know";
+    }
+}
+
+/* The name of a tiling's table, as "10_1_1_"; empty for a code that is no tiling's. */
+static inline const char *mc33_tiling_name(uint8_t code)
+{
+    static const char names[MC33_TILINGS + 1][8] = {
+        "", "1", "2", "3_1", "3_2", "4_1", "4_2", "5", "6_1_1", "6_1_2", "6_2", "7_1", "7_2", "7_3", "7_4_1", "7_4_2",
+        "8", "9", "10_1_1", "10_1_1_", "10_1_2", "10_2", "10_2_", "11", "12_1_1", "12_1_1_", "12_1_2", "12_2", "12_2_",
+        "13_1", "13_1_", "13_2", "13_2_", "13_3", "13_3_", "13_4", "13_5_1", "13_5_2", "14"
+    };
+    return code <= MC33_TILINGS ? names[code] : "";
+}
+
+/* How many configurations a case has, from 0 on; 0 for case 0, which has -1 alone, and for a number that is no case. */
+static inline int mc33_configurations(int case_number)
+{
+    static const signed char numbers[15] = {0, 16, 24, 24, 8, 48, 48, 16, 6, 8, 6, 12, 24, 2, 12};
+    return 0 <= case_number && case_number < 15 ? numbers[case_number] : 0;
+}
 
 #ifdef __cplusplus
 }

@@ -3,13 +3,14 @@
     python3 oracle/library_calls.py calls > crates/library_calls/stdin
     python3 oracle/library_calls.py answers > crates/library_calls/stdout
 
-Choices are document 01's own for its cubes to check by hand, and the Rust's for the cubes of mc33's sample, from
-crates/mc33/stdin and stdout. Lists, refusals, face tests, edge readings and roots are worked out here from document
-01's text. Each operation is made in binary64 and rounded to binary32, which for +, -, ×, / and the root of normal
+The version is the header's. Choices are document 01's own for its cubes to check by hand, and the Rust's for the
+cubes of mc33's sample, from crates/mc33/stdin and stdout. Lists, refusals, face tests, edge readings and roots are
+worked out here from document 01's text. Each operation is made in binary64 and rounded to binary32, which for +, -, ×, / and the root of normal
 results is the same as rounding once.
 """
 import math
 import pathlib
+import re
 import struct
 import sys
 
@@ -306,7 +307,15 @@ def roots():
     root('7f7fffff', '5f7fffff')
 
 
+def version():
+    """The header's, as `v` and 1000 × major + minor; the program prints it before it reads a call."""
+    header = (CRATES.parent / 'include/mc33.h').read_text()
+    major, minor = (re.search(rf'#define MC33_VERSION_{part} (\d+)', header)[1] for part in ('MAJOR', 'MINOR'))
+    answers.append(f'v {1000 * int(major) + int(minor)}')
+
+
 def main():
+    version()
     sample = cubes_of_the_sample()
     hand_cubes()
     kinds_of_row(lambda test: choose(*next((text, [0, *answer]) for text, answer in sample if test(*answer))))

@@ -1,5 +1,6 @@
 // Calls the functions of the C interface and prints what they answer: first the version, as `v` and the number.
-// Then standard input has a call a line; a line with a cube has it as the text program's lines do, behind a letter and a space:
+// Then standard input has a call a line; a line with a cube has it as the text program's lines do, behind a letter
+// and a space:
 //   c: `mc33_choose`, by the case and the configuration; the cube is held, behind those held before
 //   f: `mc33_face`, and e: `mc33_edge`, of the number that stands for the case
 //   r: `mc33_root` of c0, and `mc33_root_bits` of its bits
@@ -9,9 +10,9 @@
 // answer its numbers are printed in their order, and behind a list's the answer bytes; for a value x there stands
 // 2 × x + 100, or 255 where that is no whole number from 0 to 254.
 //
-// The answers in `stdout` come from outside, by oracle/library_calls.py, which knows nothing of this code: choices are
-// document 01's own for its cubes and the Rust's for the cubes of mc33's sample; lists, refusals, faces, readings and
-// roots are worked out from document 01's text.
+// The answers in `stdout` come from outside, by oracle/library_calls.py, which knows nothing of this code: the version
+// is the header's; choices are document 01's own for its cubes and the Rust's for the cubes of mc33's sample; lists,
+// refusals, faces, readings and roots are worked out from document 01's text.
 ghost use Prim.Native.Nat.{_+_, _<_, _≤_};
 ghost use lib.ListN.{length};
 use cube::Cube;
