@@ -6,9 +6,11 @@
 #     ./install.sh /usr/local
 #     gcc yours.c $(pkg-config --cflags --libs mc33)
 set -euo pipefail
+usage() { sed -n '2,7s/^# \{0,1\}//p' "$0"; }
 case "${1-}" in
 '' | /*) prefix=${1-} ;;
--*) sed -n '2,8s/^# \{0,1\}//p' "$0" >&2; exit 2 ;;
+-h | --help) usage; exit 0 ;;
+-*) usage >&2; exit 2 ;;
 *) prefix=$PWD/$1 ;;
 esac
 cd "$(dirname "$0")"

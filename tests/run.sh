@@ -47,6 +47,7 @@ numpy_python() {
 }
 
 tried examples examples/run.sh
+tried install tests/install.sh
 tried header header
 tried versions tests/versions.sh
 tried rust tests/rust.sh
