@@ -1,6 +1,7 @@
 //! The proved chooser from Rust: each routine once, then a list and a refused list. Prints what examples/choose.c prints.
 use mc33::{
     choose, choose_list, read_edge, root, root_bits, test_face, Choice, Cube, ListRefused, Reading,
+    ROW_BYTES,
 };
 
 fn print_choice(case: i8, configuration: i8, cube: Cube) {
@@ -40,19 +41,19 @@ fn print_edge(cube: Cube, edge: i8) {
 fn print_outcome(outcome: Result<(), ListRefused>) {
     match outcome {
         Ok(()) => println!("done"),
-        Err(ListRefused { refusal, place }) => println!("refused {} at {place}", refusal.number()),
+        Err(error) => println!("refused {} at {}", error.refusal.number(), error.place),
     }
 }
 
-/// Three cubes; each answer byte is 7 beforehand.
+/// Three cubes; each answer byte is 7 beforehand. `mc33::rows` would read the rows as choices.
 fn print_list(corners: &[f32], numbers: &[i8]) {
-    let mut answers = [7; 12];
+    let mut answers = [7; 3 * ROW_BYTES];
     print_outcome(choose_list(corners, numbers, &mut answers));
-    for [code, row, column, rest] in answers
-        .chunks(4)
-        .map(|bytes| <[u8; 4]>::try_from(bytes).unwrap())
-    {
-        println!("{code} {row} {column} {rest}");
+    for row in answers.chunks(ROW_BYTES) {
+        println!(
+            "{}",
+            row.iter().map(u8::to_string).collect::<Vec<_>>().join(" ")
+        );
     }
 }
 

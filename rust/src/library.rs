@@ -53,6 +53,7 @@ extern "C" {
         answers: *mut u8,
         answers_length: usize,
     ) -> Mc33Outcome;
+    fn mc33_version() -> u32;
 }
 
 // SAFETY, for all but the list: the functions take any numbers and touch no memory of the caller's.
@@ -76,6 +77,10 @@ pub fn root(x: f32) -> f32 {
 
 pub fn root_bits(bits: u32) -> u32 {
     unsafe { mc33_root_bits(bits) }
+}
+
+pub fn version() -> u32 {
+    unsafe { mc33_version() }
 }
 
 pub fn list(corners: &[f32], numbers: &[i8], answers: &mut [u8]) -> Mc33Outcome {

@@ -1,86 +1,115 @@
 //! The refusals, by their numbers.
-use std::error::Error;
-use std::fmt::{Display, Formatter, Result as Written};
+use core::error::Error;
+use core::fmt::{Display, Formatter, Result as Written};
 
-/// Why there is no answer. Of the specification's nine, 8 is the text program's, and 9 is proved never to be given.
+/// Why there is no answer. Later versions may name more.
 #[derive(Clone, Copy, Debug, PartialEq, Eq, Hash)]
-#[repr(u8)]
+#[non_exhaustive]
 pub enum Refusal {
-    /// The case is below 0 or above 14.
-    NoCase = 1,
-    /// The configuration is not one of the case's.
-    NoConfiguration = 2,
-    /// A corner is a NaN or infinite.
-    NotFinite = 3,
-    /// The face number is not -6..-1 or 1..6.
-    NoFace = 4,
-    /// The edge number is not 0..11.
-    NoEdge = 5,
-    /// A list without 8 corner values and 2 numbers a cube.
-    UnevenLists = 6,
-    /// A list with fewer than 4 answer bytes a cube.
-    NoRoom = 7,
+    /// 1: the case is below 0 or above 14.
+    NoCase,
+    /// 2: the configuration is not one of the case's.
+    NoConfiguration,
+    /// 3: a corner is a NaN or infinite.
+    NotFinite,
+    /// 4: the face number is not -6..-1 or 1..6.
+    NoFace,
+    /// 5: the edge number is not 0..11.
+    NoEdge,
+    /// 6: a list without 8 corner values and 2 numbers a cube.
+    UnevenLists,
+    /// 7: a list with fewer than [`ROW_BYTES`](crate::ROW_BYTES) answer bytes a cube.
+    NoRoom,
+    /// 8: a malformed line of the text program's input; no function of this crate gives it.
+    MalformedLine,
+    /// 9: an inner index is outside its table. The library is proved never to give it. This crate does where the library's
+    /// answer is none that it has a name for, as may be where their versions differ: see [`version`](crate::version).
+    OutsideTable,
+    /// A number that this version of the crate has no name for. Ask [`Refusal::number`] for it and not a pattern, since a
+    /// later version may name it.
+    #[non_exhaustive]
+    Unknown {
+        /// The number that the library gave.
+        number: u64,
+    },
 }
 
 impl Refusal {
-    /// The refusal's number.
+    /// The refusal's number, the same in every language.
     ///
     /// ```
     /// assert_eq!(mc33::Refusal::NotFinite.number(), 3);
     /// ```
-    pub fn number(self) -> u8 {
-        self as u8
+    pub fn number(self) -> u64 {
+        self.number_and_words().0
+    }
+
+    fn number_and_words(self) -> (u64, &'static str) {
+        use Refusal::*;
+        match self {
+            NoCase => (1, "the case is below 0 or above 14"),
+            NoConfiguration => (2, "the configuration is not one of the case's"),
+            NotFinite => (3, "a corner is a NaN or infinite"),
+            NoFace => (4, "the face number is not -6..-1 or 1..6"),
+            NoEdge => (5, "the edge number is not 0..11"),
+            UnevenLists => (6, "the list has not 8 corner values and 2 numbers a cube"),
+            NoRoom => (7, "the list has fewer than 4 answer bytes a cube"),
+            MalformedLine => (8, "the line is malformed"),
+            OutsideTable => (9, "an inner index is outside its table"),
+            Unknown { number } => (number, "this version of the crate has no name for it"),
+        }
     }
 }
 
 /// `Ok` for 0, or the refusal.
-pub fn answered(number: u8) -> Result<(), Refusal> {
+pub fn answered(number: u64) -> Result<(), Refusal> {
     use Refusal::*;
-    match number {
-        0 => Ok(()),
-        1 => Err(NoCase),
-        2 => Err(NoConfiguration),
-        3 => Err(NotFinite),
-        4 => Err(NoFace),
-        5 => Err(NoEdge),
-        6 => Err(UnevenLists),
-        7 => Err(NoRoom),
-        _ => unreachable!("the library is proved never to refuse by {number}"),
-    }
+    Err(match number {
+        0 => return Ok(()),
+        1 => NoCase,
+        2 => NoConfiguration,
+        3 => NotFinite,
+        4 => NoFace,
+        5 => NoEdge,
+        6 => UnevenLists,
+        7 => NoRoom,
+        8 => MalformedLine,
+        9 => OutsideTable,
+        _ => Unknown { number },
+    })
 }
 
 impl Display for Refusal {
     fn fmt(&self, f: &mut Formatter) -> Written {
-        let why = match self {
-            Refusal::NoCase => "the case is below 0 or above 14",
-            Refusal::NoConfiguration => "the configuration is not one of the case's",
-            Refusal::NotFinite => "a corner is a NaN or infinite",
-            Refusal::NoFace => "the face number is not -6..-1 or 1..6",
-            Refusal::NoEdge => "the edge number is not 0..11",
-            Refusal::UnevenLists => "the list has not 8 corner values and 2 numbers a cube",
-            Refusal::NoRoom => "the list has fewer than 4 answer bytes a cube",
-        };
-        write!(f, "refused {}: {why}", self.number())
+        let (number, words) = self.number_and_words();
+        write!(f, "refused {number}: {words}")
     }
 }
 
 impl Error for Refusal {}
 
-/// Why a list was refused, and the place of the refused cube, counted from 0 (0 for 6 and 7).
+/// Why a list was refused, and where. Only [`choose_list`](crate::choose_list) makes it; later versions may add fields.
 ///
 /// ```
-/// let error = mc33::choose_list(&[1.0; 8], &[15, 0], &mut [0; 4]).unwrap_err();
+/// let error = mc33::choose_list(&[1.0; 8], &[15, 0], &mut [0; mc33::ROW_BYTES]).unwrap_err();
 /// assert_eq!(error.to_string(), "cube 0 refused 1: the case is below 0 or above 14");
 /// ```
 #[derive(Clone, Copy, Debug, PartialEq, Eq, Hash)]
+#[non_exhaustive]
 pub struct ListRefused {
+    /// Why.
     pub refusal: Refusal,
+    /// The place of the refused cube, counted from 0; 0 too where the list as a whole is refused
+    /// ([`Refusal::UnevenLists`], [`Refusal::NoRoom`]).
     pub place: usize,
 }
 
 impl Display for ListRefused {
     fn fmt(&self, f: &mut Formatter) -> Written {
-        write!(f, "cube {} {}", self.place, self.refusal)
+        match self.refusal {
+            Refusal::UnevenLists | Refusal::NoRoom => self.refusal.fmt(f),
+            _ => write!(f, "cube {} {}", self.place, self.refusal),
+        }
     }
 }
 
@@ -88,13 +117,44 @@ impl Error for ListRefused {}
 
 #[cfg(test)]
 mod tests {
-    use super::answered;
+    use super::{answered, ListRefused, Refusal};
+    use crate::ROW_BYTES;
+    use std::format;
+    use std::string::ToString;
 
     #[test]
     fn each_number_is_its_refusal() {
         assert_eq!(answered(0), Ok(()));
-        for number in 1..=7 {
-            assert_eq!(answered(number).unwrap_err().number(), number);
+        for number in 1..=9 {
+            let refusal = answered(number).unwrap_err();
+            assert_eq!(refusal.number(), number);
+            assert!(!matches!(refusal, Refusal::Unknown { .. }), "{number}");
         }
+    }
+
+    #[test]
+    fn an_unknown_number_keeps_its_number() {
+        for number in [10, 12, 255, 256, 300, 257 << 32 | 3, u64::MAX] {
+            let refusal = answered(number).unwrap_err();
+            assert_eq!(refusal, Refusal::Unknown { number });
+            assert_eq!(refusal.number(), number);
+            let words = format!("refused {number}: this version of the crate has no name for it");
+            assert_eq!(refusal.to_string(), words);
+        }
+    }
+
+    #[test]
+    fn too_little_room_is_told_by_the_width_of_a_row() {
+        let words = format!("fewer than {ROW_BYTES} answer bytes");
+        assert!(Refusal::NoRoom.to_string().contains(&words));
+    }
+
+    #[test]
+    fn a_list_refused_as_a_whole_names_no_cube() {
+        let told = |refusal| ListRefused { refusal, place: 0 }.to_string();
+        for whole in [Refusal::UnevenLists, Refusal::NoRoom] {
+            assert_eq!(told(whole), whole.to_string());
+        }
+        assert!(told(Refusal::NotFinite).starts_with("cube 0 refused 3"));
     }
 }
