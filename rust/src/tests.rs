@@ -30,6 +30,32 @@ fn a_cube_is_its_corners() {
     assert_eq!(<[f32; 8]>::from(Cube(corners)), corners);
 }
 
+/// The examples of document 01, 'What is refused'.
+#[test]
+fn each_refusal_of_the_library_has_its_name() {
+    let cube = Cube([1.0; 8]);
+    let infinite = Cube([1.0, 1.0, 1.0, 1.0, 1.0, 1.0, 1.0, f32::INFINITY]);
+    let listed = |numbers, answers| choose_list(&cube.0, numbers, answers).unwrap_err();
+    let refusals = [
+        (choose(15, 0, cube).unwrap_err(), Refusal::NoCase),
+        (choose(4, 8, cube).unwrap_err(), Refusal::NoConfiguration),
+        (choose(4, 0, infinite).unwrap_err(), Refusal::NotFinite),
+        (test_face(cube, 0).unwrap_err(), Refusal::NoFace),
+        (read_edge(cube, 12).unwrap_err(), Refusal::NoEdge),
+        (
+            listed(&[3, 0, 4, 0], &mut [0; 8]).refusal,
+            Refusal::UnevenLists,
+        ),
+        (
+            listed(&[3, 0], &mut [0; ROW_BYTES - 1]).refusal,
+            Refusal::NoRoom,
+        ),
+    ];
+    for (number, (refusal, name)) in (1..).zip(refusals) {
+        assert_eq!((refusal, refusal.number()), (name, number));
+    }
+}
+
 #[test]
 fn an_unknown_refusal_keeps_its_number() {
     let refusal = 12;
