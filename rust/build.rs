@@ -1,6 +1,7 @@
-//! Links `libmc33_c.a` from the folder that `MC33_LIB_DIR` names (counted from this one where it is relative), or from
-//! `target/staticlib` of this repository. Documentation and `cargo check` need no archive, so that it is not there is a
-//! warning. Who links gets an error, and since `cargo --quiet` has no warnings, the name in it says what to do.
+//! Links `libmc33_c.a` from the folder that `MC33_LIB_DIR` names (counted from this one where it is relative), or
+//! from `target/staticlib` of this repository. Documentation and `cargo check` need no archive, so that it is not
+//! there is a warning. Who links gets an error, and since `cargo --quiet` has no warnings, the name in it says what
+//! to do.
 use std::path::PathBuf;
 
 const HELP: &str = "run ./install.sh, or set MC33_LIB_DIR";

@@ -1,4 +1,5 @@
-//! The proved chooser from Rust: each routine once, then a list and a refused list. Prints what examples/choose.c prints.
+//! The proved chooser from Rust: each routine once, then a list and a refused list. Prints what examples/choose.c
+//! prints.
 use mc33::{
     choose, choose_list, read_edge, root, root_bits, test_face, Choice, Cube, ListRefused, Reading,
     ROW_BYTES,

@@ -88,9 +88,9 @@ pub fn choice_of(code: u8, row: u8, column: u8, centre: u8, unsettled: u8) -> Op
 ///
 /// # Errors
 ///
-/// [`NotARow::Bytes`] where the code is 39 to 254, where the last byte is above 7, or where code 0 or 255 has other bytes
-/// than a list writes with it. Whether a table has such a row and column, and the centre, is not looked at: so bytes that
-/// no list wrote may pass.
+/// [`NotARow::Bytes`] where the code is 39 to 254, where the last byte is above 7, or where code 0 or 255 has other
+/// bytes than a list writes with it. Whether a table has such a row and column, and the centre, is not looked at: so
+/// bytes that no list wrote may pass.
 ///
 /// ```
 /// use mc33::{Choice, NotARow};
@@ -148,8 +148,8 @@ impl Error for NotARow {}
 ///
 /// # Errors
 ///
-/// [`NotARow::Length`] where the answers are no whole number of rows, so cut off bytes past the last cube's. Each row is a
-/// `Result` of its own, [`NotARow::Bytes`] where it is none.
+/// [`NotARow::Length`] where the answers are no whole number of rows, so cut off bytes past the last cube's. Each row
+/// is a `Result` of its own, [`NotARow::Bytes`] where it is none.
 ///
 /// ```
 /// use mc33::{choose_list, rows, Choice, NotARow, ROW_BYTES};

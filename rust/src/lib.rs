@@ -1,9 +1,9 @@
 //! The proved Marching Cubes 33 chooser, over its static library.
 //!
-//! From a case, a configuration and a cube's eight corner values to the tiling that `handle_cube` of baby_shark picks.
-//! Every function takes any numbers and gives an answer or one numbered refusal; none panics or allocates, and the crate
-//! needs no `std`. What the library is proved to do is in the repository's `docs/PROOFS.md`; this crate only names its
-//! numbers.
+//! From a case, a configuration and a cube's eight corner values to the tiling that `handle_cube` of `baby_shark`
+//! picks. Every function takes any numbers and gives an answer or one numbered refusal; none panics or allocates, and
+//! the crate needs no `std`. What the library is proved to do is in the repository's `docs/PROOFS.md`; this crate
+//! only names its numbers.
 //!
 //! ```
 //! use mc33::{choose, Choice, Cube};
@@ -19,8 +19,8 @@
 //! assert_eq!(name(apart), "3_1");
 //! ```
 //!
-//! To link it, `libmc33_c.a` has to be in `target/staticlib` of the repository, where `./install.sh` makes it, or in the
-//! folder that `MC33_LIB_DIR` names when cargo runs.
+//! To link it, `libmc33_c.a` has to be in `target/staticlib` of the repository, where `./install.sh` makes it, or in
+//! the folder that `MC33_LIB_DIR` names when cargo runs.
 #![no_std]
 #![deny(missing_docs)]
 
@@ -42,8 +42,8 @@ pub const VERSION: (u32, u32) = (1, 0);
 
 /// The version of the library that is linked: (major, minor).
 ///
-/// The crate reads every answer of a library whose major number is [`VERSION`]'s. One of a later minor number may give
-/// refusals that the crate has no name for: [`Refusal::Unknown`].
+/// The crate reads every answer of a library whose major number is [`VERSION`]'s. One of a later minor number may
+/// give refusals that the crate has no name for: [`Refusal::Unknown`].
 ///
 /// ```
 /// assert_eq!(mc33::version().0, mc33::VERSION.0);
@@ -79,10 +79,12 @@ impl From<Cube> for [f32; 8] {
 /// assert_eq!(choose(4, 8, cube), Err(Refusal::NoConfiguration));
 /// assert_eq!(choose(0, -1, cube), Ok(Choice::Empty));
 /// ```
+#[inline]
 pub fn choose(case: i8, configuration: i8, cube: Cube) -> Result<Choice, Refusal> {
     choice_said(library::choose(case, configuration, cube))
 }
 
+#[inline]
 fn choice_said(said: Mc33Choice) -> Result<Choice, Refusal> {
     refusal::answered(said.refusal.into())?;
     let Mc33Choice {
@@ -193,10 +195,11 @@ pub fn root_bits(bits: u32) -> u32 {
     library::root_bits(bits)
 }
 
-/// Chooses for a list of cubes: 8 corner values, 2 numbers (case and configuration) and [`ROW_BYTES`] answer bytes a cube.
+/// Chooses for a list of cubes: 8 corner values, 2 numbers (case and configuration) and [`ROW_BYTES`] answer bytes a
+/// cube.
 ///
-/// [`rows`] reads the answers, and `Choice::try_from` a row. Bytes past the last cube's stay as they are, and a refused
-/// list has every answer byte unchanged.
+/// [`rows`] reads the answers, and `Choice::try_from` a row. Bytes past the last cube's stay as they are, and a
+/// refused list has every answer byte unchanged.
 ///
 /// # Errors
 ///

@@ -22,11 +22,12 @@ pub enum Refusal {
     NoRoom,
     /// 8: a malformed line of the text program's input; no function of this crate gives it.
     MalformedLine,
-    /// 9: an inner index is outside its table. The library is proved never to give it. This crate does where the library's
-    /// answer is none that it has a name for, as may be where their versions differ: see [`version`](crate::version).
+    /// 9: an inner index is outside its table. The library is proved never to give it. This crate does where the
+    /// library's answer is none that it has a name for, as may be where their major versions differ: see
+    /// [`version`](crate::version).
     OutsideTable,
-    /// A number that this version of the crate has no name for. Ask [`Refusal::number`] for it and not a pattern, since a
-    /// later version may name it.
+    /// A number that this version of the crate has no name for. Ask [`Refusal::number`] for it and not a pattern,
+    /// since a later version may name it.
     #[non_exhaustive]
     Unknown {
         /// The number that the library gave.
@@ -88,7 +89,8 @@ impl Display for Refusal {
 
 impl Error for Refusal {}
 
-/// Why a list was refused, and where. Only [`choose_list`](crate::choose_list) makes it; later versions may add fields.
+/// Why a list was refused, and where. Only [`choose_list`](crate::choose_list) makes it; later versions may add
+/// fields.
 ///
 /// ```
 /// let error = mc33::choose_list(&[1.0; 8], &[15, 0], &mut [0; mc33::ROW_BYTES]).unwrap_err();
