@@ -21,7 +21,7 @@ pub enum Refusal {
     /// 7: a list with fewer than [`ROW_BYTES`](crate::ROW_BYTES) answer bytes a cube.
     NoRoom,
     /// 8: a malformed line of the text program's input; no function of this crate gives it.
-    MalformedLine,
+    Malformed,
     /// 9: an inner index is outside its table. The library is proved never to give it. This crate does where the
     /// library's answer is none that it has a name for, as may be where their major versions differ: see
     /// [`version`](crate::version).
@@ -55,7 +55,7 @@ impl Refusal {
             NoEdge => (5, "the edge number is not 0..11"),
             UnevenLists => (6, "the list has not 8 corner values and 2 numbers a cube"),
             NoRoom => (7, "the list has fewer than 4 answer bytes a cube"),
-            MalformedLine => (8, "the line is malformed"),
+            Malformed => (8, "the line is malformed"),
             OutsideTable => (9, "an inner index is outside its table"),
             Unknown { number } => (number, "this version of the crate has no name for it"),
         }
@@ -74,7 +74,7 @@ pub fn answered(number: u64) -> Result<(), Refusal> {
         5 => NoEdge,
         6 => UnevenLists,
         7 => NoRoom,
-        8 => MalformedLine,
+        8 => Malformed,
         9 => OutsideTable,
         _ => Unknown { number },
     })

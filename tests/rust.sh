@@ -3,10 +3,10 @@
 # documentation without the archive, and what a person reads who links without it. Wants target/staticlib/libmc33_c.a,
 # which ./install.sh makes.
 set -euo pipefail
-cd "$(dirname "$0")/../.."
+cd "$(dirname "$0")/.."
 unset MC33_LIB_DIR
 export CARGO_TARGET_DIR="$PWD/target/rust" RUSTFLAGS="-D warnings" RUSTDOCFLAGS="-D warnings"
-out=target/rust/tries
+out=target/tests/rust
 mkdir -p "$out/empty"
 
 crate() { cargo "$1" --quiet --offline --manifest-path rust/Cargo.toml "${@:2}"; }
@@ -23,7 +23,7 @@ if cargo clippy --version > /dev/null 2>&1; then
 fi
 
 CARGO_PROFILE_RELEASE_PANIC=abort crate build --release
-rustc --edition 2021 -O -C panic=abort -D warnings rust/tries/no_std.rs -o "$out/no_std" \
+rustc --edition 2021 -O -C panic=abort -D warnings tests/no_std.rs -o "$out/no_std" \
     --extern mc33="$CARGO_TARGET_DIR/release/libmc33.rlib"
 "$out/no_std"
 echo "without std: as expected"
