@@ -3,7 +3,7 @@
 
     check.py SOURCE [SIZE]
 
-SIZE is 64 (half a minute) or 24 (two seconds). Ends with status 1 where something is otherwise.
+SIZE is 64, the default (half a minute), or 24 (two seconds). Ends with status 1 where something is otherwise.
 """
 import io
 import math
@@ -84,7 +84,9 @@ def check_sphere(tables, size):
     write_ply(text, *mesh.numbered())
     points, triangles = read_ply(text.getvalue())
     hold("sphere: points - edges + triangles", len(points) - len(triangles) // 2, 2)
-    exact = 4 / 3 * math.pi * (0.4 * size) ** 3
+    radius, middle = 0.4 * size, 3 * [size / 2 - 0.3]
+    hold("sphere: points within 0.05 voxels", all(abs(math.dist(p, middle) - radius) < 0.05 for p in points), True)
+    exact = 4 / 3 * math.pi * radius ** 3
     hold("sphere: volume within 1 %", abs(volume(points, triangles) / exact - 1) < 0.01, True)
     check_picture(*mesh.numbered())
 
