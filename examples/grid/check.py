@@ -13,7 +13,7 @@ from collections import Counter
 
 import field
 from ask import ask
-from mesh import RULES, Faults, draw, write_ply
+from mesh import RULES, Faults, draw, write_obj, write_ply
 from picture import GREY, write_png
 from source import Tables
 from winding import places
@@ -68,6 +68,12 @@ def read_ply(text):
     return [list(map(float, line)) for line in lines[:count]], [list(map(int, line[1:])) for line in lines[count:]]
 
 
+def read_obj(text):
+    lines = [line.split() for line in text.splitlines()]
+    return ([list(map(float, line[1:])) for line in lines if line[0] == "v"],
+            [[int(number) - 1 for number in line[1:]] for line in lines if line[0] == "f"])
+
+
 def volume(points, triangles):
     """Above 0 where the triangles, counter-clockwise, are seen from outside."""
     total = 0.0
@@ -83,6 +89,9 @@ def check_sphere(tables, size):
     text = io.StringIO()
     write_ply(text, *mesh.numbered())
     points, triangles = read_ply(text.getvalue())
+    text = io.StringIO()
+    write_obj(text, *mesh.numbered())
+    hold("sphere: the same in OBJ", read_obj(text.getvalue()) == (points, triangles), True)
     hold("sphere: points - edges + triangles", len(points) - len(triangles) // 2, 2)
     radius, middle = 0.4 * size, 3 * [size / 2 - 0.3]
     hold("sphere: points within 0.05 voxels", all(abs(math.dist(p, middle) - radius) < 0.05 for p in points), True)

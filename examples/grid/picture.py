@@ -18,6 +18,8 @@ def turned(point, azimuth=0.6, elevation=0.5):
 
 def fitted(points, side):
     """The points turned to the eye, right and down in pixels."""
+    if not points:
+        return []
     points = [turned(point) for point in points]
     low, high = ([bound(part) for part in zip(*points)] for bound in (min, max))
     scale = 0.92 * side / max(b - a for a, b in zip(low[:2], high[:2]))
