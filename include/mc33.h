@@ -8,9 +8,8 @@
  *          |/          |/       face 1 is y = 0, 2 is x = 1, 3 is y = 1,
  *          0 --------- 1             4 is x = 0, 5 is z = 0, 6 is z = 1
  *
- * The sign rule: a corner is in a cube's set where its value is above 0. Case and configuration are those of the set,
- * and the tables' triangles part the corners in the set from the others. A field that is below 0 inside is turned
- * round first: give its values with the other sign. docs/USING.md goes from a grid of distances to a mesh.
+ * The sign rule: corner n is bit n of a cube's number where its value is above 0, whichever side of 0 is inside; case
+ * and configuration are looked up by that number. docs/USING.md goes from a grid of distances to a mesh.
  *
  * Codes of a choice, with the names of their tables (mc33_tiling_name):
  *

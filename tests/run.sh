@@ -58,7 +58,7 @@ tried program rt check mc33
 tried shell tests/shell.sh
 tried split examples/split.sh
 if command -v parallel > /dev/null; then tried parallel examples/parallel.sh; else wanting parallel "GNU parallel"; fi
-if [ -d "$source" ]; then tried grid examples/grid/run.sh "$source"; else wanting grid "a checkout of the source"; fi
+if [ -d "$source" ]; then tried grid python3 examples/grid/check.py "$source"; else wanting grid "a checkout of the source"; fi
 
 echo "$passed passed, $failed failed, $skipped skipped"
 [ "$failed" -eq 0 ]
