@@ -1,0 +1,73 @@
+"""Choices, and the rows of bytes in which lists give them."""
+from __future__ import annotations
+
+from typing import Any, Iterable, List, NamedTuple
+
+from .buffers import ANSWERS, check, held
+from .tables import EMPTY, NO_TILING, ROW, TILINGS
+
+CODES = bytes([EMPTY, *TILINGS, NO_TILING])
+CENTRES = bytes(rest % 2 for rest in range(256))
+UNSETTLED = bytes(rest // 2 for rest in range(256))
+RESTS = bytes(range(8))
+
+
+class Choice(NamedTuple):
+    """What is chosen for a cube. A later major version may add fields at the end.
+
+    Code EMPTY has zeros. Code NO_TILING has the configuration as row and the sub-configuration as column.
+    """
+
+    code: int
+    row: int
+    column: int
+    centre: int
+    unsettled: int
+
+    @property
+    def name(self) -> str:
+        """The tiling's name, as '10_1_1_'; '' where there is no tiling."""
+        return TILINGS.get(self.code, "")
+
+
+class Columns(NamedTuple):
+    """The fields of all rows, each field's together: numpy arrays of uint8, or bytearrays without numpy."""
+
+    code: Any
+    row: Any
+    column: Any
+    centre: Any
+    unsettled: Any
+
+
+def _check_bytes(column: bytearray, known: bytes, what: str) -> None:
+    strange = column.translate(None, known)
+    if strange:
+        raise ValueError(f"row {column.index(strange[0])} has {what} {strange[0]}, which no row of this version has")
+
+
+def _split(answers: Iterable[int]) -> Columns:
+    with held(answers, ANSWERS) as view:
+        check(view, ANSWERS)
+        rows = bytearray(view)
+    if len(rows) % ROW:
+        raise ValueError(f"answers have {len(rows)} bytes, which is no whole number of rows of {ROW} bytes")
+    code, rest = rows[0::ROW], rows[3::ROW]
+    _check_bytes(code, CODES, "code")
+    _check_bytes(rest, RESTS, "centre + 2 * unsettled")
+    return Columns(code, rows[1::ROW], rows[2::ROW], rest.translate(CENTRES), rest.translate(UNSETTLED))
+
+
+def columns(answers: Iterable[int]) -> Columns:
+    """The columns of the rows that a list wrote, copied. ValueError for bytes that are no rows of this version."""
+    split = _split(answers)
+    try:
+        import numpy
+    except ImportError:
+        return split
+    return Columns(*(numpy.frombuffer(column, numpy.uint8) for column in split))
+
+
+def choices(answers: Iterable[int]) -> List[Choice]:
+    """The choices that a list wrote. ValueError for bytes that are no rows of this version."""
+    return list(map(Choice._make, zip(*_split(answers))))
