@@ -1,0 +1,86 @@
+"""The package and the library that it loads."""
+import inspect
+import shutil
+import subprocess
+import tempfile
+import typing
+import unittest
+from pathlib import Path
+
+import mc33
+from mc33.library import BUILT, FUNCTIONS
+
+from .support import run
+
+ASK = """
+import mc33
+mc33.choices(b"")
+try:
+    print(mc33.version())
+except ImportError as error:
+    print(error)
+"""
+
+
+class Package(unittest.TestCase):
+    def test_public_names(self):
+        for name in mc33.__all__:
+            self.assertTrue(hasattr(mc33, name), name)
+        public = {name for name, value in vars(mc33).items() if name[0] != "_" and not inspect.ismodule(value)}
+        self.assertEqual(public, set(mc33.__all__))
+        self.assertEqual(mc33.__version__, "1.0.0")
+
+    def test_hints_and_words(self):
+        self.assertTrue((Path(mc33.__file__).parent / "py.typed").exists())
+        for name in mc33.__all__:
+            value = getattr(mc33, name)
+            if inspect.isfunction(value):
+                self.assertEqual(set(typing.get_type_hints(value)), {*inspect.signature(value).parameters, "return"})
+            if inspect.isfunction(value) or inspect.isclass(value):
+                self.assertTrue(value.__doc__, name)
+
+
+class Library(unittest.TestCase):
+    def setUp(self):
+        folder = tempfile.TemporaryDirectory()
+        self.addCleanup(folder.cleanup)
+        self.folder = Path(folder.name)
+
+    def said(self, library, **others):
+        ended = run("-c", ASK, library=library, **others)
+        self.assertEqual((ended.returncode, ended.stderr), (0, b""))
+        return ended.stdout.decode().strip()
+
+    def made(self, code):
+        """A shared object of this C code."""
+        if not shutil.which("gcc"):
+            self.skipTest("gcc is not there to make another library")
+        made = self.folder / "made.so"
+        subprocess.run(["gcc", "-shared", "-fPIC", "-xc", "-", "-o", made], input=code.encode(), check=True)
+        return made
+
+    def test_named_by_the_environment(self):
+        shutil.copy(BUILT, self.folder / "copy.so")
+        self.assertEqual(self.said(self.folder / "copy.so"), "1000")
+        self.assertEqual(self.said("copy.so", cwd=self.folder), "1000")
+        self.assertEqual(self.said(""), "1000")
+
+    def test_missing(self):
+        for name in (self.folder / "none.so", "none.so"):
+            self.assertRegex(self.said(name), r"none\.so.*\./install\.sh.*MC33_LIBRARY")
+
+    def test_another_file(self):
+        (self.folder / "text.so").write_text("no library")
+        self.assertRegex(self.said(self.folder / "text.so"), r"text\.so.*\./install\.sh")
+
+    def test_another_library(self):
+        self.assertRegex(self.said(self.made("int other;")), r"made\.so has no mc33_version.*\./install\.sh")
+
+    def test_another_major_version(self):
+        others = "".join(f"void {name}(void) {{}}\n" for name in FUNCTIONS if name != "mc33_version")
+        made = self.made(others + "unsigned mc33_version(void) { return 2001; }")
+        self.assertRegex(self.said(made), r"made\.so has version 2\.1, .* 1\.0\.0 .* needs 1\. .*install\.sh")
+
+    def test_a_later_minor_version(self):
+        others = "".join(f"void {name}(void) {{}}\n" for name in FUNCTIONS if name != "mc33_version")
+        self.assertEqual(self.said(self.made(others + "unsigned mc33_version(void) { return 1007; }")), "1007")
