@@ -13,7 +13,7 @@ from .release import VERSION
 from .tables import ROW
 
 DONE, REFUSED, FAILED = 0, 1, 2
-STATUSES = "Status: 0 done; 1 refused, and nothing written; 2 could not read or write. 1 and 2 are told on standard error."
+STATUSES = "Status: 0 done; 1 refused, and nothing written; 2 could not read or write. Standard error tells why."
 
 
 def _add_list(subcommands: Any) -> None:

@@ -27,7 +27,7 @@ def refusal_text(number: int) -> str:
 
 
 class Refused(Exception):
-    """No answer: the refusal's number, and for a list the place of the refused cube, counted from 0 (0 for 6 and 7)."""
+    """No answer: the refusal's number, and for a list the refused cube's place, counted from 0 (0 for 6 and 7)."""
 
     def __init__(self, number: int, place: Optional[int] = None) -> None:
         super().__init__(number, place)

@@ -74,6 +74,8 @@ class Done(Command):
     def test_standard_input_and_output(self):
         self.assertEqual(self.done("-", "n", "-", input=self.corners), ROWS)
         self.assertEqual(self.done("c", "-", "-", input=self.numbers), ROWS)
+        twice = "from mc33.command import main\nfor _ in range(2): main(['list', 'c', 'n', '-'])"
+        self.assertEqual(run("-c", twice, cwd=self.folder).stdout, 2 * ROWS)
         self.file("log", b"before")
         with open(self.folder / "log", "ab") as log:
             self.done("c", "n", "-", stdout=log)
@@ -83,7 +85,7 @@ class Done(Command):
         self.assertEqual(self.done("/dev/null", "/dev/null", "-"), b"")
 
     def test_help_and_version(self):
-        for arguments, words in (["--help"], b"list"), (["list", "--help"], b"corners"), (["--version"], b"mc33 1.0.0\n"):
+        for words, *arguments in (b"list", "--help"), (b"corners", "list", "--help"), (b"mc33 1.0.0\n", "--version"):
             ended = run("-m", "mc33", *arguments, library="/nowhere")
             self.assertEqual((ended.returncode, ended.stderr), (0, b""))
             self.assertIn(words, ended.stdout)

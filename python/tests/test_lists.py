@@ -39,11 +39,11 @@ print(told[0], right, len(lent[which]))
 """
 
 POOL = """
-import multiprocessing, sys
+import multiprocessing
 import mc33
 with multiprocessing.Pool(1) as pool:
     try:
-        pool.apply(mc33.choose_list, ([1] * 16, [3, 0, 15, 0]))
+        pool.apply_async(mc33.choose_list, ([1] * 16, [3, 0, 15, 0])).get(20)
     except mc33.Refused as refused:
         print(refused.number, refused.place)
 """
@@ -73,7 +73,7 @@ class Held(unittest.TestCase):
             answers.append(1)
 
     def test_a_refused_list_comes_back_from_a_pool(self):
-        ended = run("-c", POOL, timeout=30)
+        ended = run("-c", POOL)
         self.assertEqual((ended.returncode, ended.stdout), (0, b"1 1\n"), ended.stderr)
 
 
@@ -119,7 +119,8 @@ class Taken(unittest.TestCase):
         self.assertEqual(mc33.choose_list(CORNERS, NUMBERS, answers), ROWS + b"\7" * 5)
 
     def test_no_cubes(self):
-        for corners, numbers in (([], []), (array("f"), array("b"))):
+        odd = (ctypes.c_float * 0).from_buffer(bytearray(4), 1)
+        for corners, numbers in (([], []), (array("f"), array("b")), (odd, [])):
             self.assertEqual(mc33.choose_list(corners, numbers), b"")
             self.assertEqual(mc33.choose_list(corners, numbers, bytearray(b"\7")), b"\7")
 
@@ -197,6 +198,7 @@ class Unfit(unittest.TestCase):
         self.unfit(ValueError, "answers overlap numbers", corners, numbers, memory[97:98])
         numbers[::2] = memoryview(b"\1\1\1").cast("b")
         self.assertEqual(bytes(mc33.choose_list(corners, numbers, memory[102:])), b"\1\0\0\0" * 3)
+        self.assertEqual(bytes(mc33.choose_list(corners[3:11], [1, 0], memory[8:12])), b"\1\0\0\0")
 
     def test_values(self):
         self.unfit(TypeError, r"corners\[7\] is 'x', which is no number", TIED[:7] + ["x"])

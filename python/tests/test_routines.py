@@ -76,6 +76,14 @@ class Choose(unittest.TestCase):
                 self.assertEqual(choice.centre, choice.name in WITH_CENTRE)
         self.assertGreater(len(seen), 35)
 
+    def test_names_are_in_order(self):
+        def parts(name):
+            return [int(part or -1) for part in name.split("_")]
+
+        self.assertEqual(sorted(mc33.TILINGS), list(range(1, 39)))
+        names = [mc33.TILINGS[code] for code in range(1, 39)]
+        self.assertEqual(sorted(set(names), key=parts), names)
+
     def test_corners_of_any_kind(self):
         for corners in (tuple(LEVEL), array("d", LEVEL), iter(LEVEL), map(float, LEVEL)):
             self.assertEqual(mc33.choose(4, 0, corners), (6, 0, 0, 0, 3))

@@ -71,8 +71,9 @@ class Rows(unittest.TestCase):
 
     def test_buffers_that_do_not_fit(self):
         for reader in READERS:
-            for answers, error in ((array("i", [4, 0, 0, 0]), TypeError), (memoryview(bytes(16))[::2], BufferError),
-                                   (memoryview(bytes(12)).cast("B", (4, 3)), ValueError), ([4, 0, 0, 256], OverflowError),
-                                   (4, TypeError), ("rows", TypeError)):
+            for answers, error in (
+                    (array("i", [4, 0, 0, 0]), TypeError), (memoryview(bytes(16))[::2], BufferError), (4, TypeError),
+                    (memoryview(bytes(12)).cast("B", (4, 3)), ValueError), ([4, 0, 0, 256], OverflowError),
+                    ("rows", TypeError)):
                 with self.assertRaises(error):
                     reader(answers)
