@@ -52,5 +52,5 @@ def main(arguments: Optional[Sequence[str]] = None) -> int:
         print(f"mc33: {refused}", file=sys.stderr)
         return REFUSED
     except (OSError, ImportError, MemoryError, files.Malformed) as error:
-        print(f"mc33: {error or 'no memory'}", file=sys.stderr)
+        print(f"mc33: {str(error) or 'no memory'}", file=sys.stderr)
         return FAILED

@@ -3,9 +3,14 @@ import os
 import tempfile
 import unittest
 from array import array
+from contextlib import redirect_stderr
+from io import StringIO
 from pathlib import Path
+from unittest import mock
 
 import mc33
+from mc33 import files
+from mc33.command import main
 
 from .support import CORNERS, NUMBERS, ROWS, needs_numpy, numpy, run
 
@@ -158,6 +163,11 @@ class Failed(Command):
 
     def test_without_the_library(self):
         self.failed("install.sh", "c", "n", "a", library="/nowhere")
+
+    def test_without_memory(self):
+        with mock.patch.object(files, "read", side_effect=MemoryError), redirect_stderr(StringIO()) as told:
+            self.assertEqual(main(["list", "c", "n", "a"]), 2)
+        self.assertEqual(told.getvalue(), "mc33: no memory\n")
 
     def test_usage(self):
         for arguments in ([], ["none"], ["list"], ["list", "c", "n"], ["list", "c", "n", "a", "b"], ["--none"]):
