@@ -16,17 +16,18 @@ from .values import made
 
 
 class Items(NamedTuple):
-    """What a buffer has to hold: items of the type `letter` (`type` in words), `width` of them a cube."""
+    """What a buffer has to hold: items of the type `letter` (`type` in words) of `size` bytes, `width` a cube."""
 
     name: str
     letter: str
     type: str
+    size: int
     width: int
 
 
-CORNERS = Items("corners", "f", "f32", 8)
-NUMBERS = Items("numbers", "b", "i8", 2)
-ANSWERS = Items("answers", "B", "u8", ROW)
+CORNERS = Items("corners", "f", "f32", 4, 8)
+NUMBERS = Items("numbers", "b", "i8", 1, 2)
+ANSWERS = Items("answers", "B", "u8", 1, ROW)
 
 OWN_ORDER = ("", "@", "=", "<" if sys.byteorder == "little" else ">")
 
@@ -73,9 +74,9 @@ def held_room(answers: Any) -> memoryview:
         raise TypeError(f"answers are {shortened(answers)}, which is no buffer to write into") from None
 
 
-def count(view: memoryview) -> int:
-    """How many items a view has."""
-    return view.nbytes // view.itemsize
+def count(view: memoryview, items: Items) -> int:
+    """How many items a view has. Its own itemsize is 0 for an empty ctypes array in Python 3.9."""
+    return view.nbytes // items.size
 
 
 def check_shape(shape: Sequence[int], items: Items) -> None:
@@ -86,14 +87,14 @@ def check_shape(shape: Sequence[int], items: Items) -> None:
 def check(view: memoryview, items: Items) -> None:
     """Whether the library can be lent this memory as it is; if not, an error in words."""
     order, letter = view.format[:-1], view.format[-1:]
-    if letter != items.letter or (view.itemsize > 1 and order not in OWN_ORDER):
+    if letter != items.letter or (items.size > 1 and order not in OWN_ORDER):
         wanted = f"{items.type} in this machine's byte order ({items.letter!r})"
         raise TypeError(f"{items.name} have items of format {view.format!r}; they have to be {wanted}")
     check_shape(view.shape, items)
     if not view.c_contiguous:
         raise BufferError(f"{items.name} are not contiguous in C order; make a copy of them")
-    if address(view) % view.itemsize:
-        raise BufferError(f"{items.name} do not start at a multiple of {view.itemsize} bytes; make a copy of them")
+    if address(view) % items.size:
+        raise BufferError(f"{items.name} do not start at a multiple of {items.size} bytes; make a copy of them")
 
 
 def check_room(view: memoryview) -> None:

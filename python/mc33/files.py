@@ -44,7 +44,7 @@ def _check_head(head: Dict[str, Any], items: Items, length: int) -> None:
     check_shape(head["shape"], items)
     if head["fortran_order"] and len(head["shape"]) > 1:
         raise Malformed("its items are in Fortran order; they have to be in C order")
-    asked = prod(head["shape"]) * array(items.letter).itemsize
+    asked = prod(head["shape"]) * items.size
     if length != asked:
         raise Malformed(f"it has {length} bytes of items, and its shape {head['shape']} asks for {asked}")
 
@@ -66,9 +66,9 @@ def _items(file: BinaryIO, items: Items, npy: bool) -> "array[Any]":
     data = _rest(file)
     if head:
         _check_head(head, items, len(data))
-    values = array(items.letter)
-    if len(data) % values.itemsize:
+    if len(data) % items.size:
         raise Malformed(f"its {len(data)} bytes are no whole number of {items.type} values")
+    values = array(items.letter)
     values.frombytes(data)
     return values
 

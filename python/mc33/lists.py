@@ -3,7 +3,7 @@ from __future__ import annotations
 
 from typing import Any, Iterable, TypeVar, overload
 
-from .buffers import CORNERS, NUMBERS, address, check, check_apart, check_room, count, held, held_room
+from .buffers import ANSWERS, CORNERS, NUMBERS, address, check, check_apart, check_room, count, held, held_room
 from .library import loaded
 from .refusals import Refused
 from .tables import ROW
@@ -15,8 +15,8 @@ def _fill(corners: memoryview, numbers: memoryview, answers: memoryview) -> None
     check_room(answers)
     check_apart(answers, corners, CORNERS)
     check_apart(answers, numbers, NUMBERS)
-    lent = [part for view in (corners, numbers, answers) for part in (address(view), count(view))]
-    outcome = loaded().mc33_list(*lent)
+    lent = (corners, CORNERS), (numbers, NUMBERS), (answers, ANSWERS)
+    outcome = loaded().mc33_list(*(part for view, items in lent for part in (address(view), count(view, items))))
     if outcome.refusal:
         raise Refused(outcome.refusal, outcome.place)
 
@@ -48,7 +48,7 @@ def choose_list(corners: Iterable[float], numbers: Iterable[int], answers: Any =
         check(cubes, CORNERS)
         check(pairs, NUMBERS)
         if answers is None:
-            answers = bytearray(count(cubes) // CORNERS.width * ROW)
+            answers = bytearray(count(cubes, CORNERS) // CORNERS.width * ROW)
         with held_room(answers) as room:
             _fill(cubes, pairs, room)
     return answers
