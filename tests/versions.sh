@@ -17,6 +17,5 @@ defined() { sed -n "s/^$1 = //p" crates/mc33_c/specs/Version.antt; }
 quoted() { sed -n "s/^$1 *= *\"\(.*\)\"/\1/p" "$2" | head -n 1; }
 has crates/mc33_c/specs/Version.antt "$(defined major).$(defined minor)"
 has rust/Cargo.toml "$(quoted version rust/Cargo.toml)"
-has python/pyproject.toml "$(quoted version python/pyproject.toml)"
-has python/mc33 "$(cat python/mc33/*.py | sed -n 's/^__version__\(: str\)\? = "\(.*\)"/\2/p')"
+has python/mc33/release.py "$(quoted VERSION python/mc33/release.py)"
 exit "$lags"

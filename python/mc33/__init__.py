@@ -5,8 +5,9 @@
     rows = mc33.choose_list(corners, numbers)                 # 8 corners, 2 numbers and ROW answer bytes a cube
     mc33.columns(rows).code
 
-Needs libmc33.so, which ./install.sh of the repository makes in target/staticlib; MC33_LIBRARY names another file.
-The first call that needs it loads it, and is an ImportError in words where it is missing or of another major version.
+Needs libmc33.so, which ./install.sh of the repository makes in target/staticlib, or puts where the system looks;
+MC33_LIBRARY names another file. The first call that needs it loads it, and is an ImportError in words where it is
+missing or of another major version.
 """
 from .lists import choose_list
 from .refusals import REFUSALS, Refused, refusal_text

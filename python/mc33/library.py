@@ -11,6 +11,7 @@ from typing import Any, Dict, List, Tuple
 from .release import MAJOR, VERSION
 
 BUILT = Path(__file__).resolve().parents[2] / "target" / "staticlib" / "libmc33.so"
+INSTALLED = f"libmc33.so.{MAJOR}"
 HOW = "Make it with ./install.sh at the top of the repository, or set MC33_LIBRARY to the file."
 
 
@@ -62,10 +63,16 @@ def _declare(library: ctypes.CDLL, path: str) -> None:
         function.restype, function.argtypes = gives, takes
 
 
+def _where() -> str:
+    """The file that MC33_LIBRARY names; or the one that the repository builds; or else the system's."""
+    named = os.environ.get("MC33_LIBRARY")
+    return os.path.abspath(named or BUILT) if named or BUILT.exists() else INSTALLED
+
+
 @lru_cache(maxsize=None)
 def loaded() -> ctypes.CDLL:
-    """The file that MC33_LIBRARY names, or else the one that the repository builds. ImportError without it."""
-    path = os.path.abspath(os.environ.get("MC33_LIBRARY") or BUILT)
+    """The library; ImportError without it."""
+    path = _where()
     library = _opened(path)
     _declare(library, path)
     major, minor = divmod(library.mc33_version(), 1000)

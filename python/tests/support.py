@@ -21,9 +21,9 @@ ROWS = bytes([4, 0, 0, 0, 6, 0, 0, 6, 255, 0, 5, 0])
 needs_numpy = unittest.skipUnless(numpy, "numpy is not there")
 
 
-def run(*arguments, timeout=120, library=None, **others):
+def run(*arguments, timeout=120, library=None, path=PACKAGE, LD_LIBRARY_PATH="", **others):
     """Runs this python with the package at hand."""
-    environment = {**os.environ, "PYTHONPATH": str(PACKAGE)}
+    environment = {**os.environ, "PYTHONPATH": str(path), "LD_LIBRARY_PATH": LD_LIBRARY_PATH}
     if library is not None:
         environment["MC33_LIBRARY"] = str(library)
     for stream in ("stdout", "stderr"):

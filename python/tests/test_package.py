@@ -8,7 +8,7 @@ import unittest
 from pathlib import Path
 
 import mc33
-from mc33.library import BUILT, FUNCTIONS
+from mc33.library import BUILT, FUNCTIONS, INSTALLED
 
 from .support import run
 
@@ -64,6 +64,13 @@ class Library(unittest.TestCase):
         self.assertEqual(self.said(self.folder / "copy.so"), "1000")
         self.assertEqual(self.said("copy.so", cwd=self.folder), "1000")
         self.assertEqual(self.said(""), "1000")
+
+    def test_installed(self):
+        shutil.copytree(Path(mc33.__file__).parent, self.folder / "mc33")
+        shutil.copy(BUILT, self.folder / INSTALLED)
+        copy = {"path": self.folder, "cwd": self.folder}
+        self.assertEqual(self.said("", **copy, LD_LIBRARY_PATH=str(self.folder)), "1000")
+        self.assertRegex(self.said("", **copy), r"libmc33\.so\.1.*\./install\.sh.*MC33_LIBRARY")
 
     def test_missing(self):
         for name in (self.folder / "none.so", "none.so"):
