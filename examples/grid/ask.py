@@ -1,10 +1,7 @@
 """From a grid of distances to a choice for each cube, one call a layer."""
-import sys
 from array import array
-from pathlib import Path
 
-sys.path.insert(0, str(Path(__file__).resolve().parents[2] / "python"))
-import mc33  # noqa: E402
+from chooser import mc33
 
 
 def corner_steps(tables, size):

@@ -5,9 +5,9 @@ A vertex is a number: 3 * place + axis for the point on the grid's edge that lea
 """
 from collections import Counter, namedtuple
 
-from source import CODES
+from chooser import mc33
 
-CENTRE, NO_TILING = 12, 255
+CENTRE = 12
 
 # The rules of drawing (docs/USING.md); without them a tiling is drawn as answered.
 RULES = frozenset(["turn", "own row", "centre"])
@@ -21,7 +21,7 @@ def triangles_of(tables, choice, configuration, rules):
     """The triangles of a choice, as triples of edge numbers."""
     row, turn = choice.row, False
     if row != configuration:
-        if choice.code == CODES["13_5_2"] and "own row" in rules:
+        if choice.name == "13_5_2" and "own row" in rules:
             row = configuration
         else:
             turn = "turn" in rules
@@ -61,7 +61,7 @@ class Mesh:
         return tuple(sum(part) / len(found) for part in zip(*found))
 
     def add(self, tables, place, configuration, choice, rules):
-        if choice.code == NO_TILING:
+        if choice.code == mc33.NO_TILING:
             self.untiled += 1
             return
         steps = self.steps

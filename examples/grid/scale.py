@@ -8,15 +8,16 @@ from array import array
 
 import field
 from ask import ask
-from mesh import NO_TILING, draw
-from source import NAMES, Tables
+from chooser import mc33
+from mesh import draw
+from source import Tables
 
 AMBIGUOUS = (3, 4, 6, 7, 10, 12, 13)
 POWERS = (-4, -8, -10, -12, 31, 32, 62, 64, 100)
 
 
 def is_ambiguous(choice):
-    return choice.code == NO_TILING or int(NAMES[choice.code - 1].split("_")[0]) in AMBIGUOUS
+    return choice.code == mc33.NO_TILING or int(choice.name.split("_")[0]) in AMBIGUOUS
 
 
 def tilings(cubes):

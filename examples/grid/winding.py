@@ -9,7 +9,8 @@ its left, and turned if they lie to its right. Such a triangle, counter-clockwis
 import sys
 from collections import Counter
 
-from source import CODES, NAMES, Tables
+from chooser import mc33
+from source import Tables
 
 
 def face_lines(tiling):
@@ -53,10 +54,10 @@ def judge(tables, above, tiling):
 def places(tables):
     """Every place that a choice can name: name, configuration, row, column, and what the winding is there."""
     for above, (case, configuration) in enumerate(tables.cases):
-        for name in NAMES:
+        for code, name in mc33.TILINGS.items():
             if int(name.split("_")[0]) == case:
                 for row in rows_of(name, configuration):
-                    for column, tiling in enumerate(tables.tilings[CODES[name]][row]):
+                    for column, tiling in enumerate(tables.tilings[code][row]):
                         yield name, configuration, row, column, judge(tables, above, tiling)
 
 
@@ -68,8 +69,9 @@ def main(checkout):
                      if winding != "right")
     for (name, own), number in turned.items():
         print(f"{name}, row {'of the configuration' if own else 'of another configuration'}: {number} turned")
+    [code] = [code for code, name in mc33.TILINGS.items() if name == "13_5_2"]
     own = [judge(tables, above, tiling) for above, (case, row) in enumerate(tables.cases) if case == 13
-           for tiling in tables.tilings[CODES["13_5_2"]][row]]
+           for tiling in tables.tilings[code][row]]
     print(f"13_5_2, drawn at the configuration's own row: {dict(Counter(own))}")
 
 
