@@ -47,6 +47,11 @@ pub block-lent : (out input left : List ℕ) (first number put : ℕ) (over : Bo
     → take (put - 0) out ≡ blockOf first input .written
 block-lent out input left first number put over e = lent-front out (blockOf first input .written) put (ap (λ (x : Block). x .written) e)
 
+-- a block that was the end was refused at its line
+pub block-refused : (out left input : List ℕ) (first number : ℕ) (over : Bool) → block out left number over ≡ blockOf first input → over ≡ true
+    → (blockOf first input .over ≡ true) × (number ≡ blockOf first input .number)
+block-refused out left input first number over e o = (sym (ap (λ (x : Block). x .over) e) ∙ o, ap (λ (x : Block). x .number) e)
+
 pub placed-lent : (xs ys text : List ℕ) (put : ℕ) → ys ≡ placed xs 0 text → put ≡ length text → take (put - 0) ys ≡ text
 placed-lent xs ys text put e h = lent-front ys text put (ap (λ (n : ℕ). take n ys) h ∙ placed-begins xs ys text e)
 

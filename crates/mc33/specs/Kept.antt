@@ -47,6 +47,11 @@ abbrev pub comesTo : Bool → ℕ → List ℕ → List ℕ
 comesTo true number part = atEnd number part
 comesTo false number input = blockOf number input .written
 
+-- the input is refused at `line`: by the block of line `number`, or at the input's end in line `number`
+abbrev pub RefusedAt : Bool → ℕ → List ℕ → ℕ → Type 0
+RefusedAt true number part line = (1 ≤ length (atEnd number part)) × (line ≡ number)
+RefusedAt false number input line = (blockOf number input .over ≡ true) × (line ≡ blockOf number input .number)
+
 -- after the block x: out begins with what x wrote; the program goes on exactly where x was not the end, and then keeps the part line that x
 -- left, and its number
 pub record Kept (r : State) (buf out : List ℕ) (x : Block) : Type 0 where

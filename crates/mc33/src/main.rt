@@ -1,14 +1,16 @@
 // The text program of document 01, 'Program': standard input to standard output. A turn reads a block behind
 // the part line that the last one left, answers the whole lines, writes the answers and moves the part line
 // to the front, so memory does not grow with the input. What is answered is `text`'s; here is what reads,
-// writes and keeps. Whatever goes to standard output is handed to `write_text`.
+// writes and keeps. Whatever goes to standard output is handed to `write_text`. A call that was interrupted
+// or would block is made again (`waiting`).
 ghost use mathlib.Core.Path.{_≡_};
 ghost use mathlib.Core.Bool.{cond};
 ghost use Prim.Native.Nat.{_+_, _≤_};
 ghost use lib.ListN.{length, take};
 ghost use Rattle.text.specs.Block.{blockOf};
 ghost use Rattle.mc33.specs.declared.Failure.{Failure};
-ghost use Rattle.mc33.specs.Kept.{empty, failure, comesTo, Rooms, Kept, Counted, Ended, Told, Turned};
+ghost use Rattle.mc33.specs.Kept.{empty, failure, comesTo, RefusedAt, Rooms, Kept};
+ghost use Rattle.mc33.specs.Kept.{Counted, Ended, Told, Turned};
 ghost use Rattle.mc33.specs.Runs.{Finished};
 use libc::STDERR_FILENO;
 use libc::STDIN_FILENO;
@@ -49,12 +51,10 @@ fn empty(going: bool) -> State
 }
 
 // Says what failed, and stops.
-fn failed(what: &[u8], why: Failure) -> State
+fn failed(text: &[u8], why: Failure) -> State
     ensures { λ r. ⌜ r ≡ failure why ⌝ }
 {
-    io::write_all(STDERR_FILENO, b"mc33: ");
-    io::write_all(STDERR_FILENO, what);
-    io::write_all(STDERR_FILENO, b" failed\n");
+    waiting::write_all(STDERR_FILENO, text);
     State {
         have: 0,
         number: 0,
@@ -68,7 +68,7 @@ fn after_write(wrote: bool, next: State) -> State
     ensures { λ r. ⌜ r ≡ cond wrote next (failure Failure.Write) ⌝ }
 {
     if !wrote {
-        return failed(b"write", Failure::Write);
+        return failed(b"mc33: write failed\n", Failure::Write);
     }
     next
 }
@@ -78,7 +78,26 @@ fn after_write(wrote: bool, next: State) -> State
 fn write_text(text: &[u8], number: u64, input: &[u8], ended: bool) -> bool
     requires { ⌜ now text ≡ comesTo ended number (now input) ⌝ }
 {
-    io::write_all(STDOUT_FILENO, text)
+    waiting::write_all(STDOUT_FILENO, text) == text.len()
+}
+
+// Says at which line the input was refused, as standard output's last line does.
+fn say_refused(line: u64) {
+    let mut text = [0u8; 64];
+    let digits = put::bytes(b"mc33: refused at line ", &mut text, 0);
+    let end = put::decimal(line, &mut text, digits);
+    let n = put::byte(b'\n', &mut text, end);
+    waiting::write_all(STDERR_FILENO, &text[0..n]);
+}
+
+// The input was refused at `line`, by this block or at the input's end, as in `write_text`: says so, where that was
+// written.
+fn tell_refused(wrote: bool, line: u64, number: u64, input: &[u8], ended: bool)
+    requires { ⌜ RefusedAt ended number (now input) line ⌝ }
+{
+    if wrote {
+        say_refused(line);
+    }
 }
 
 // Answers the n bytes that there are: what is kept is what their block leaves.
@@ -88,12 +107,14 @@ fn answer(number: u64, buf: &mut [u8], n: usize, out: &mut [u8]) -> State
     ensures kept { λ r. ⌜ Counted number r (Kept r (now (buf .exit)) (now (out .exit)) (blockOf number (take n (now (buf .entry))))) ⌝ }
 {
     if MOST_LINES <= number {
-        return failed(b"counting the lines", Failure::Count);
+        return failed(b"mc33: counting the lines failed\n", Failure::Count);
     }
     let done = text::answer_block(&buf[0..n], number, out);
     let put = done.put;
     let wrote = write_text(&out[0..put], number, &buf[0..n], false);
     if done.over {
+        let line = done.number;
+        tell_refused(wrote, line, number, &buf[0..n], false);
         return after_write(wrote, empty(false));
     }
     let left = done.left;
@@ -114,6 +135,9 @@ fn finish(number: u64, part: &[u8], out: &mut [u8]) -> State
 {
     let put = text::finish(part, number, out);
     let wrote = write_text(&out[0..put], number, part, true);
+    if put > 0 {
+        tell_refused(wrote, number, number, part, true);
+    }
     after_write(wrote, empty(false))
 }
 
@@ -125,7 +149,7 @@ fn after_read(got: isize, state: State, buf: &mut [u8], out: &mut [u8]) -> State
     ensures told { λ r. ⌜ Told got state (now (buf .entry)) r (now (buf .exit)) (now (out .exit)) ⌝ }
 {
     if got < 0 {
-        return failed(b"read", Failure::Read);
+        return failed(b"mc33: read failed\n", Failure::Read);
     }
     let have = state.have;
     if got == 0 {
@@ -142,7 +166,7 @@ fn turn(state: State, buf: &mut [u8], out: &mut [u8]) -> State
     ensures turned { λ r. ⌜ Turned state (now (buf .entry)) r (now (buf .exit)) (now (out .exit)) ⌝ }
 {
     let have = state.have;
-    let got = libc::read(STDIN_FILENO, &mut buf[have..]);
+    let got = waiting::read(STDIN_FILENO, &mut buf[have..]);
     after_read(got, state, buf, out)
 }
 
@@ -160,7 +184,27 @@ fn run(buf: &mut [u8], out: &mut [u8]) -> State
     state
 }
 
+// Says what the program wants, below a line that says why.
+fn say_wants(why: &[u8]) {
+    waiting::write_all(STDERR_FILENO, why);
+    waiting::write_all(
+        STDERR_FILENO,
+        b"mc33: standard input has the line 'case config c0 c1 c2 c3 c4 c5 c6 c7', then a cube a line; see README.md\n",
+    );
+}
+
 fn main() {
+    if os::arg_count() > 1 {
+        say_wants(
+            b"mc33: takes no argument, and read nothing; run it as: mc33 < cubes.txt > answers.txt\n",
+        );
+        return;
+    }
+    if libc::isatty(STDIN_FILENO) == 1 {
+        say_wants(
+            b"mc33: reads cubes from this terminal, up to Ctrl-D; from a file: mc33 < cubes.txt > answers.txt\n",
+        );
+    }
     let mut buf = [0u8; 65536];
     let mut out = [0u8; 65664];
     run(&mut buf, &mut out);

@@ -12,7 +12,7 @@ use Rattle.text.specs.Block.{blockOf}
 use Rattle.mc33.specs.declared.Failure.{Failure}
 use Rattle.mc33.specs.declared.State.{State}
 use Rattle.mc33.specs.Kept.{mostLines, empty, Kept}
-use Rattle.mc33.proofs.Keeping.{failed-short, after, block-lent, kept, kept-none}
+use Rattle.mc33.proofs.Keeping.{failed-short, after, block-lent, block-refused, kept, kept-none}
 use Rattle.mc33.proofs.answer.Statement.{statement}
 use Rattle.mc33.proofs.answer.Tie as tie
 
@@ -91,6 +91,18 @@ part-write-text-end-2 c = search needs
 write-text-requires : tie.Need-write-text-requires
 write-text-requires c κs = let b : tie.After-answer-block = search in handed b
 
+sub-tell-refused : tie.Need-sub-tell-refused
+sub-tell-refused c = search needs
+
+part-tell-refused-start : tie.Need-part-tell-refused-start
+part-tell-refused-start c = search needs
+
+part-tell-refused-end : tie.Need-part-tell-refused-end
+part-tell-refused-end c = search needs
+
+tell-refused-requires : tie.Need-tell-refused-requires
+tell-refused-requires c κs = let b : tie.After-answer-block = search in block-refused _ _ _ _ _ _ (b .answer-block .ensures .0) (c .before .before .if2 .taken)
+
 empty-requires : tie.Need-empty-requires
 empty-requires c κs = search needs
 
@@ -108,7 +120,7 @@ returns-2 c =
     let b : tie.After-answer-block = search in
     let w : tie.After-write-text = search in
     let e = c .before .empty in
-    let k = stops b (e .result) (c .before .before .if2 .taken) (e .ensures) in
+    let k = stops b (e .result) (c .before .before .before .before .before .if2 .taken) (e .ensures) in
     let a = after (Keeps b (start b .args .buf .now)) (w .write-text .result) _ (e .result) (c .after-write .ensures) (k .0) (k .1) in
     (a .0, inr (counted b, a .1))
 
@@ -153,6 +165,10 @@ answer-spec =
     part-write-text-start-2
     part-write-text-end-2
     write-text-requires
+    sub-tell-refused
+    part-tell-refused-start
+    part-tell-refused-end
+    tell-refused-requires
     empty-requires
     after-write-requires
     same-length

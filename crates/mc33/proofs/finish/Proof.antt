@@ -25,6 +25,9 @@ part-write-text-end c = search needs
 write-text-requires : tie.Need-write-text-requires
 write-text-requires c κs = let b : tie.After-finish = search in placed-lent _ _ _ (b .finish .result) (b .finish .ensures .1 .0) (b .finish .ensures .0 .0)
 
+tell-refused-requires : tie.Need-tell-refused-requires
+tell-refused-requires c κs = search needs
+
 empty-requires : tie.Need-empty-requires
 empty-requires c κs = search needs
 
@@ -53,6 +56,7 @@ finish-spec =
     part-write-text-start
     part-write-text-end
     write-text-requires
+    tell-refused-requires
     empty-requires
     after-write-requires
     same-length
