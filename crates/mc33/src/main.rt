@@ -189,7 +189,7 @@ fn say_wants(why: &[u8]) {
     waiting::write_all(STDERR_FILENO, why);
     waiting::write_all(
         STDERR_FILENO,
-        b"mc33: standard input has the line 'case config c0 c1 c2 c3 c4 c5 c6 c7', then a cube a line; see README.md\n",
+        b"mc33: on standard input: 'case config c0 c1 c2 c3 c4 c5 c6 c7', then a cube a line; see README.md\n",
     );
 }
 
