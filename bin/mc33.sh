@@ -29,7 +29,7 @@ heard() {
     local line status=0
     while IFS= read -r line || [ -n "$line" ]; do
         case $line in
-            'mc33: refused at line '*) [ "$status" = 2 ] || status=1 ;;
+            'mc33: refused at line '*) status=1 ;;
             'mc33: '*' failed' | 'mc33: takes no argument'*) status=2 ;;
         esac
         printf '%s\n' "$line" >&2 2> /dev/null
