@@ -19,7 +19,8 @@ tried() {
     target/bin/mc33 < "$1" > "$out/one" 2> "$out/words"
     in_blocks "$1" "$2" > "$out/joined"
     cmp "$out/one" "$out/joined"
-    echo "$(basename "$1"): $(wc -l < "$1") lines in $(words "$2"), the same as one run; last line: $(tail -n 1 "$out/one")"
+    echo "$(basename "$1"): $(wc -l < "$1") lines in $(words "$2"), the same as one run;" \
+        "last line: $(tail -n 1 "$out/one")"
 }
 
 sample=crates/mc33/stdin
@@ -43,7 +44,8 @@ all_tried() {
         tried "$out/cubes" "$how"
         tried "$out/refused" "$how"
     done
-    echo "Of the file with two refused cubes in $(words "$1") their own runs printed, with the line's number in its block:"
+    echo "Of the file with two refused cubes in $(words "$1") their own runs printed," \
+        "with the line's number in its block:"
     blocks "$out/refused" "$1" 2> "$out/words" | grep refused
     echo "and joined it ends at the first, with the line's number in the file:"
     in_blocks "$out/refused" "$1" | tail -n 1

@@ -2,12 +2,14 @@
 
 usage: python3 tests/streams.py out|in|terminal FILE PROGRAM [ARGUMENT..]
 
-  out        standard output is a pipe that does not block, with a slow reader
+  out        standard output is a pipe that does not block, with a slow reader; and it is told where the program was
+             busy for more than half of the time
   in         standard input is a pipe that does not block, with a slow writer
   terminal   standard input is a terminal, at which the file is typed and then Ctrl-D
 """
 import os
 import pty
+import resource
 import subprocess
 import sys
 import termios
@@ -18,14 +20,18 @@ PIECE = 16384
 
 
 def slow_reader(file, program):
+    began = time.monotonic()
     ours, theirs = os.pipe()
     os.set_blocking(theirs, False)
     with open(file, "rb") as text, subprocess.Popen(program, stdin=text, stdout=theirs) as running:
         os.close(theirs)
-        time.sleep(0.3)
+        time.sleep(0.6)
         while piece := os.read(ours, PIECE):
             sys.stdout.buffer.write(piece)
             time.sleep(0.005)
+    used = resource.getrusage(resource.RUSAGE_CHILDREN)
+    if used.ru_utime + used.ru_stime > (time.monotonic() - began) / 2:
+        print("streams.py: the program was busy while it waited", file=sys.stderr)
     return running.returncode
 
 

@@ -6,6 +6,7 @@
 ghost use mathlib.Core.Path.{_≡_};
 ghost use mathlib.Core.Bool.{cond};
 ghost use Prim.Native.Nat.{_+_, _≤_};
+ghost use lib.Dec.{eqb};
 ghost use lib.ListN.{length, take};
 ghost use Rattle.text.specs.Block.{blockOf};
 ghost use Rattle.mc33.specs.declared.Failure.{Failure};
@@ -73,12 +74,19 @@ fn after_write(wrote: bool, next: State) -> State
     next
 }
 
+// Whether so many bytes are all of the text.
+fn is_all(taken: usize, text: &[u8]) -> bool
+    ensures { λ r. ⌜ r ≡ eqb taken (length (now (text .entry))) ⌝ }
+{
+    taken == text.len()
+}
+
 // Writes what the block of this input, from line `number` on, comes to; at the input's end, what the end comes to in
 // line `number`, of which the input has come.
 fn write_text(text: &[u8], number: u64, input: &[u8], ended: bool) -> bool
     requires { ⌜ now text ≡ comesTo ended number (now input) ⌝ }
 {
-    waiting::write_all(STDOUT_FILENO, text) == text.len()
+    is_all(waiting::write_all(STDOUT_FILENO, text), text)
 }
 
 // Says at which line the input was refused, as standard output's last line does.
