@@ -53,6 +53,18 @@ refused_at() { head -n $(($1 - 1)) "$answers"; echo "refused $2 $1"; }
 tried "answered" bin/mc33.sh < "$cubes"
 gave 0 "$answers"
 
+rm -rf "$out/installed" "$out/link"
+mkdir "$out/installed"
+cp "$MC33_PROGRAM" "$out/installed/mc33"
+cp bin/mc33.sh "$out/installed"
+ln -s installed/mc33.sh "$out/link"
+tried "the program beside the script, by a link to it" env -u MC33_PROGRAM "$out/link" < "$cubes"
+gave 0 "$answers"
+mkdir -p "$out/target/bin"
+mv "$out/installed/mc33" "$out/target/bin/mc33"
+tried "the program of the checkout" env -u MC33_PROGRAM "$out/installed/mc33.sh" < "$cubes"
+gave 0 "$answers"
+
 sed '300s/ /  /' "$cubes" > "$out/malformed"
 refused_at 300 8 > "$out/up_to_300"
 tried "refused" bin/mc33.sh < "$out/malformed"
