@@ -53,7 +53,7 @@ refused_at() { head -n $(($1 - 1)) "$answers"; echo "refused $2 $1"; }
 tried "answered" bin/mc33.sh < "$cubes"
 gave 0 "$answers"
 
-rm -rf "$out/installed" "$out/link"
+rm -rf "$out/installed" "$out/link" "$out/target"
 mkdir "$out/installed"
 cp "$MC33_PROGRAM" "$out/installed/mc33"
 cp bin/mc33.sh "$out/installed"
