@@ -116,6 +116,12 @@ def said(child):
     return f"status {child.returncode}, {short(child.stdout)}, {short(child.stderr)}"
 
 
+def words_for(expected):
+    """What is said on standard error: at which line the input was refused, where it was."""
+    last = expected.splitlines()[-1:] or [b""]
+    return b"mc33: refused at line " + last[0].split()[2] + b"\n" if last[0].startswith(b"refused") else b""
+
+
 def run_test(binary, number, given, expected):
     """How many runs were made, and how many differ."""
     if given is None:
@@ -124,7 +130,7 @@ def run_test(binary, number, given, expected):
     differ = 0
     for run in (at_once, by_bytes, from_file):
         child = run(binary, given)
-        if (child.returncode, child.stdout, child.stderr) != (0, expected, b""):
+        if (child.returncode, child.stdout, child.stderr) != (0, expected, words_for(expected)):
             differ += 1
             print(f"line {number}, {run.__name__}: {said(child)}; expected {short(expected)}")
     return 3, differ
