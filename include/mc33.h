@@ -126,7 +126,8 @@ uint32_t mc33_root_bits(uint32_t bits);
 /* Chooses for a list of cubes: 8 corner values a cube, 2 numbers a cube (case and configuration), and MC33_ROW_BYTES
  * answer bytes a cube: code, row, column, centre + 2 * unsettled. Bytes past the last cube's stay as they are. A
  * refused list has every answer byte unchanged. Lengths are counted in values, numbers and bytes; where one is 0 its
- * pointer may be null. The answers may not overlap the corners or the numbers. */
+ * pointer may be null. The answers may not overlap the corners or the numbers, and nothing may write to any of the
+ * three while the call runs. */
 mc33_outcome mc33_list(const float *corners, size_t corners_length, const int8_t *numbers, size_t numbers_length,
                        uint8_t *answers, size_t answers_length);
 

@@ -98,6 +98,17 @@ fn choice_said(said: Mc33Choice) -> Result<Choice, Refusal> {
     choice::choice_of(code, row, column, centre, unsettled).ok_or(Refusal::OutsideTable)
 }
 
+/// How many configurations a case has, from 0 on: 0 for case 0, which has -1 alone, and for a number that is no case.
+///
+/// ```
+/// assert_eq!([0, 4, 13, 15].map(mc33::configurations), [0, 8, 2, 0]);
+/// ```
+pub fn configurations(case: i8) -> i8 {
+    const NUMBERS: [i8; 15] = [0, 16, 24, 24, 8, 48, 48, 16, 6, 8, 6, 12, 24, 2, 12];
+    let place = usize::try_from(case).unwrap_or(NUMBERS.len());
+    NUMBERS.get(place).copied().unwrap_or(0)
+}
+
 /// Tests a face: -6..-1 or 1..6.
 ///
 /// # Errors

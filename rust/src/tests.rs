@@ -129,3 +129,18 @@ fn a_reading_without_a_name_is_refused() {
     assert_eq!([1, 2, 3, 4].map(said), readings.map(Ok));
     assert_eq!([0, 5, 255].map(said), [Err(Refusal::OutsideTable); 3]);
 }
+
+#[test]
+fn each_case_has_its_configurations() {
+    for case in i8::MIN..=i8::MAX {
+        for configuration in i8::MIN..=i8::MAX {
+            let own = (0..configurations(case)).contains(&configuration);
+            let expected = match (case, configuration) {
+                (0, -1) => None,
+                (0..=14, _) => (!own).then_some(Refusal::NoConfiguration),
+                _ => Some(Refusal::NoCase),
+            };
+            assert_eq!(choose(case, configuration, Cube([1.0; 8])).err(), expected);
+        }
+    }
+}
