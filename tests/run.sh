@@ -3,7 +3,7 @@
 # tilings the grid is drawn with (without it ../shared/docs/src beside the repository). Ends in 'N passed, M failed';
 # what could not be tried here, for want of a program, is told and counted.
 set -uo pipefail
-cd "$(dirname "$0")/.."
+cd "$(dirname "$0")/.." || exit 2
 source=${1:-../shared/docs/src}
 out=target/tests
 mkdir -p "$out"

@@ -53,7 +53,8 @@ def address(view: memoryview) -> int:
     buffer = _Buffer()
     _get(view, buffer, 0)
     try:
-        return buffer.buf if view.nbytes else 0
+        start: int = buffer.buf if view.nbytes else 0
+        return start
     finally:
         _release(buffer)
 
@@ -90,7 +91,7 @@ def check(view: memoryview, items: Items) -> None:
     if letter != items.letter or (items.size > 1 and order not in OWN_ORDER):
         wanted = f"{items.type} in this machine's byte order ({items.letter!r})"
         raise TypeError(f"{items.name} have items of format {view.format!r}; they have to be {wanted}")
-    check_shape(view.shape, items)
+    check_shape(view.shape or (), items)
     if not view.c_contiguous:
         raise BufferError(f"{items.name} are not contiguous in C order; make a copy of them")
     if address(view) % items.size:

@@ -8,7 +8,7 @@ from contextlib import contextmanager
 from errno import EAGAIN
 from math import prod
 from os import strerror
-from typing import Any, BinaryIO, Dict, Iterator
+from typing import IO, Any, Dict, Iterator
 
 from .buffers import ANSWERS, Items, check_shape
 from .tables import ROW
@@ -22,7 +22,7 @@ class Malformed(ValueError):
     """A file that does not hold what it should."""
 
 
-def _head(file: BinaryIO) -> Dict[str, Any]:
+def _head(file: IO[bytes]) -> Dict[str, Any]:
     """The head of a .npy file: a magic word, two bytes of version, a length, and so many bytes of a dict."""
     start = file.read(8)
     if len(start) < 8 or not start.startswith(MAGIC):
@@ -49,7 +49,7 @@ def _check_head(head: Dict[str, Any], items: Items, length: int) -> None:
         raise Malformed(f"it has {length} bytes of items, and its shape {head['shape']} asks for {asked}")
 
 
-def _rest(file: BinaryIO) -> bytearray:
+def _rest(file: IO[bytes]) -> bytearray:
     """The bytes up to the file's end, and no fewer where a descriptor would block."""
     data = bytearray()
     while True:
@@ -61,7 +61,7 @@ def _rest(file: BinaryIO) -> bytearray:
         data += part
 
 
-def _items(file: BinaryIO, items: Items, npy: bool) -> "array[Any]":
+def _items(file: IO[bytes], items: Items, npy: bool) -> "array[Any]":
     head = _head(file) if npy else None
     data = _rest(file)
     if head:
@@ -74,7 +74,7 @@ def _items(file: BinaryIO, items: Items, npy: bool) -> "array[Any]":
 
 
 @contextmanager
-def _opened(name: str, mode: str, standard: int) -> Iterator[BinaryIO]:
+def _opened(name: str, mode: str, standard: int) -> Iterator[IO[bytes]]:
     """The file, or for '-' the standard one. An OSError, also one from the closing, has the name."""
     try:
         with open(standard if name == "-" else name, mode, closefd=name != "-") as file:

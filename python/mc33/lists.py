@@ -22,7 +22,8 @@ def _fill(corners: memoryview, numbers: memoryview, answers: memoryview) -> None
 
 
 @overload
-def choose_list(corners: Iterable[float], numbers: Iterable[int], answers: None = None) -> bytearray: ...
+def choose_list(  # type: ignore[misc]  # None fits Room too, and the first one stands
+    corners: Iterable[float], numbers: Iterable[int], answers: None = None) -> bytearray: ...
 
 
 @overload

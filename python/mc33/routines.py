@@ -50,7 +50,7 @@ def test_face(corners: Iterable[float], face: int) -> bool:
     """Tests a face: -6..-1 or 1..6. Raises Refused 4, then 3."""
     said = loaded().mc33_face(_cube(corners), whole("face", face))
     _look_at(said.refusal)
-    return said.answer == 1
+    return bool(said.answer == 1)
 
 
 def read_edge(corners: Iterable[float], edge: int) -> Reading:
@@ -66,14 +66,14 @@ def read_edge(corners: Iterable[float], edge: int) -> Reading:
 
 def root(x: float) -> float:
     """The f32 square root, the nearest value: a NaN for a NaN and below zero, each zero and +infinity for itself."""
-    return loaded().mc33_root(single("x", x))
+    return float(loaded().mc33_root(single("x", x)))
 
 
 def root_bits(bits: int) -> int:
     """The same on bit patterns. The root of a NaN and of a value below zero is always 7fc00000."""
-    return loaded().mc33_root_bits(whole("bits", bits, "I"))
+    return int(loaded().mc33_root_bits(whole("bits", bits, "I")))
 
 
 def version() -> int:
     """The library's version, 1000 * major + minor. ImportError where there is no library."""
-    return loaded().mc33_version()
+    return int(loaded().mc33_version())

@@ -25,7 +25,7 @@ def whole(name: str, value: Any, letter: str = "b") -> int:
 def single(name: str, value: Any) -> float:
     """A number rounded to f32."""
     try:
-        rounded = array("f", [value])[0]
+        rounded: float = array("f", [value])[0]
         if isinf(rounded) and not isinf(value):
             raise OverflowError
     except TypeError:
