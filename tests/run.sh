@@ -13,13 +13,14 @@ skipped=0
 
 # tried NAME COMMAND..: the command's last lines where it fails.
 tried() {
-    local begun=$SECONDS
-    if "${@:2}" > "$out/$1.log" 2>&1 < /dev/null; then
+    local begun=$SECONDS status=0
+    "${@:2}" > "$out/$1.log" 2>&1 < /dev/null || status=$?
+    if [ "$status" = 0 ]; then
         passed=$((passed + 1))
         echo "$1: passed ($((SECONDS - begun)) s)"
     else
         failed=$((failed + 1))
-        echo "$1: FAILED, status $?; the end of $out/$1.log:"
+        echo "$1: FAILED, status $status; the end of $out/$1.log:"
         tail -n 20 "$out/$1.log"
     fi
 }
@@ -57,7 +58,7 @@ if [ -n "$numpy" ]; then tried numpy python_tests "$numpy"; else wanting numpy "
 tried program rt check mc33
 tried shell tests/shell.sh
 tried split examples/split.sh
-if command -v parallel > /dev/null; then tried parallel examples/parallel.sh; else wanting parallel "GNU parallel"; fi
+if [[ $(parallel --version 2>&1 < /dev/null) = "GNU parallel"* ]]; then tried parallel examples/parallel.sh; else wanting parallel "GNU parallel"; fi
 if [ -d "$source" ]; then tried grid python3 examples/grid/check.py "$source"; else wanting grid "a checkout of the source"; fi
 
 echo "$passed passed, $failed failed, $skipped skipped"
