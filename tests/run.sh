@@ -51,6 +51,7 @@ tried examples examples/run.sh
 tried install tests/install.sh
 tried header header
 tried versions tests/versions.sh
+tried names python3 tests/names.py
 tried rust tests/rust.sh
 tried python python_tests python3
 numpy=$(numpy_python)
