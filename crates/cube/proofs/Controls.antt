@@ -8,15 +8,15 @@ use lib.Dec.{eqb}
 use lib.IntN.{pos, negsuc}
 use lib.Ieee.{Float, nan, binary32, ofBits}
 use Rattle.cube.specs.declared.Cube.{Cube}
-use Rattle.cube.specs.declared.Refusal.the-variants.{NoCase, NoConfiguration, NotFinite, NoFace, NoEdge, UnevenLists, NoRoom, Malformed, OutsideTable}
+use Rattle.cube.specs.declared.Refusal.the-variants.{NoCase, NoConfiguration, NotFinite, NoFace, NoEdge, UnevenLists, NoRoom, Malformed}
 use Rattle.cube.specs.declared.Split.the-variants.{NotBelow, Below}
 use Rattle.cube.specs.Bits.{bitOf, numberOf}
 use Rattle.cube.specs.Corners.{corners, digitOf, valueAt, cornerOf, allFinite, cube}
 use Rattle.cube.specs.Refusals.{refusalNumber}
 use Rattle.cube.specs.Signs.{splitValue}
 
-numbers-hold : map refusalNumber (NoCase ∷ NoConfiguration ∷ NotFinite ∷ NoFace ∷ NoEdge ∷ UnevenLists ∷ NoRoom ∷ Malformed ∷ OutsideTable ∷ [])
-    ≡ 1 ∷ 2 ∷ 3 ∷ 4 ∷ 5 ∷ 6 ∷ 7 ∷ 8 ∷ 9 ∷ []
+numbers-hold : map refusalNumber (NoCase ∷ NoConfiguration ∷ NotFinite ∷ NoFace ∷ NoEdge ∷ UnevenLists ∷ NoRoom ∷ Malformed ∷ [])
+    ≡ 1 ∷ 2 ∷ 3 ∷ 4 ∷ 5 ∷ 6 ∷ 7 ∷ 8 ∷ []
 numbers-hold = refl
 
 places : List ℕ

@@ -2,6 +2,8 @@
 // `Cube` holds the eight corner values; `Face`, `EdgeNo` and `Corner` keep the three kinds of number
 // apart. Public: `take_apart`, `corner_in`, `values`, `value_at`, `value_in`, `all_finite`, `number`.
 ghost use mathlib.Core.Path.{_≡_};
+ghost use mathlib.Core.Bool.{not};
+ghost use lib.Dec.{T, eqb};
 ghost use Rattle.cube.specs.Corners.{corners, digitOf, valueAt, allFinite};
 ghost use Rattle.cube.specs.Signs.{splitValue};
 ghost use Rattle.cube.specs.Refusals.{refusalNumber};
@@ -30,7 +32,7 @@ pub struct EdgeNo(pub i8);
 // A corner number: 0..7 are corners.
 pub struct Corner(pub u8);
 
-// Why something is refused. `number` gives document 01's number.
+// Why something is refused. `number` gives document 01's number, and never 9 (document 02, 'Change 12').
 pub enum Refusal {
     NoCase,
     NoConfiguration,
@@ -40,11 +42,11 @@ pub enum Refusal {
     UnevenLists,
     NoRoom,
     Malformed,
-    OutsideTable,
 }
 
 pub fn number(why: Refusal) -> u8
-    ensures { λ r. ⌜ r ≡ refusalNumber why ⌝ }
+    ensures number { λ r. ⌜ r ≡ refusalNumber why ⌝ }
+    ensures never9 { λ r. ⌜ T (not (eqb r 9)) ⌝ }
 {
     match why {
         Refusal::NoCase => 1,
@@ -55,7 +57,6 @@ pub fn number(why: Refusal) -> u8
         Refusal::UnevenLists => 6,
         Refusal::NoRoom => 7,
         Refusal::Malformed => 8,
-        Refusal::OutsideTable => 9,
     }
 }
 

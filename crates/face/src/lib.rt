@@ -1,5 +1,5 @@
 // The face test: document 01, 'Face test'. Public: `test_face`, which refuses, and `face_answer`, the
-// rule alone, for callers that have tested their cube and face; `place`, the face without its sign, and
+// rule alone, for callers that have tested their cube and face; `size` and `place`, the face without its sign, and
 // `square_of`, the values at its corners.
 ghost use mathlib.Core.Path.{_≡_};
 ghost use lib.IntN.{natAbs};
@@ -36,7 +36,7 @@ const C: u64 = 0x624_7650;
 const D: u64 = 0x510_3210;
 
 // |face|
-fn size(face: Face) -> u32
+pub fn size(face: Face) -> u32
     ensures { λ r. ⌜ r ≡ natAbs (face .0) ⌝ }
 {
     match cube::take_apart(face.0) {

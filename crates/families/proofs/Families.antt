@@ -11,7 +11,7 @@ use Rattle.cube.specs.declared.Cube.{Cube}
 use Rattle.cube.proofs.Table.{agree, NoneFrom, past-all}
 use Rattle.notes.specs.Notes.{noNotes}
 use Rattle.tilings.specs.Tilings.{configurations, tilingsOf, firstTiling, isOneOf, hasCentre}
-use Rattle.tilings.specs.Plan.{Chosen, tiling, run}
+use Rattle.tilings.specs.Plan.{tiling, Reached, reach, run}
 use Rattle.tilings.specs.Answers.{answersOf}
 use Rattle.families.specs.Plans.{asking, plans, planOf}
 
@@ -31,7 +31,7 @@ module _ {case c : ℕ} where
       go zero h = absurd (not-suc-le-zero h)
       go (suc k) h = omega arith
 
-pub reached : {case : ℕ} (q : Cube) (c : ℕ) {k : ℕ} → case ≡ k → {x : Chosen} → x ≡ run (answersOf q) (planOf k c) noNotes → x ≡ run (answersOf q) (planOf case c) noNotes
+pub reached : {case : ℕ} (q : Cube) (c : ℕ) {k : ℕ} → case ≡ k → {x : Reached} → x ≡ run (answersOf q) (planOf k c) noNotes → x ≡ run (answersOf q) (planOf case c) noNotes
 reached q c e f = f ∙ ap (λ (j : ℕ). run (answersOf q) (planOf j c) noNotes) (sym e)
 
 -- past case 14 there is no tiling, nor for case 0
@@ -41,11 +41,11 @@ no-first zero h = refl
 no-first (suc k) h = sym (ap (λ (codes : List ℕ). getD codes 0 0) (List·getD-eq-default tilingsOf [] (past-all 1 14 (suc k) (omega arith) h)))
 
 module _ (q : Cube) (c : ℕ) where
-  abbrev byPlan : ℕ → Chosen
+  abbrev byPlan : ℕ → Reached
   byPlan case = run (answersOf q) (planOf case c) noNotes
 
-  abbrev byFirst : ℕ → Chosen
-  byFirst case = tiling (firstTiling case) c 0 (hasCentre (firstTiling case)) noNotes
+  abbrev byFirst : ℕ → Reached
+  byFirst case = reach (tiling (firstTiling case) c 0 (hasCentre (firstTiling case))) noNotes
 
   unasked : (k : ℕ) → k < 15 → cond (isOneOf k (0 ∷ asking)) (byPlan k) (byFirst k) ≡ byPlan k
   unfolding run planOf plans firstTiling tilingsOf
@@ -53,7 +53,7 @@ module _ (q : Cube) (c : ℕ) where
 
   -- a case of which c is a configuration is not case 0
   pub plainly : (case : ℕ) → c < getD configurations case 0 → isOneOf case asking ≡ false
-      → (code : ℕ) → code ≡ firstTiling case → tiling code c 0 (hasCentre code) noNotes ≡ byPlan case
+      → (code : ℕ) → code ≡ firstTiling case → reach (tiling code c 0 (hasCentre code)) noNotes ≡ byPlan case
   plainly case h n code e =
       rw e (sym (ap (λ (b : Bool). cond b (byPlan case) (byFirst case)) none) ∙ unasked case (of-a-case h))
     where

@@ -27,10 +27,9 @@ plan6 c =
     (ask (inside (natAbs first ∷ []) (entry «TEST_6» c 1)) (tile «TILING_6_1_1» c 0) (tile «TILING_6_1_2» c 0))
 
 -- by the sub-configuration; the interior test of case 7 takes -s
-unfoldable pub part7 : ℕ → ℕ → Plan
-part7 c sub =
-    getD
-    (tile «TILING_7_1» c 0
+abbrev pub parts7 : ℕ → List Plan
+parts7 c =
+    tile «TILING_7_1» c 0
     ∷ tile «TILING_7_2» c 0
     ∷ tile «TILING_7_2» c 1
     ∷ tile «TILING_7_3» c 0
@@ -38,9 +37,10 @@ part7 c sub =
     ∷ tile «TILING_7_3» c 1
     ∷ tile «TILING_7_3» c 2
     ∷ ask (inside faces125 (negℤ (entry «TEST_7» c 3))) (tile «TILING_7_4_1» c 0) (tile «TILING_7_4_2» c 0)
-    ∷ [])
-    sub
-    nothing
+    ∷ []
+
+unfoldable pub part7 : ℕ → ℕ → Plan
+part7 c sub = getD (parts7 c) sub nothing
 
 unfoldable pub plan7 : ℕ → Plan
 plan7 c = askInTurn (entry «TEST_7» c 0 ∷ entry «TEST_7» c 1 ∷ entry «TEST_7» c 2 ∷ []) (part7 c)

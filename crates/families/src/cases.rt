@@ -5,7 +5,7 @@ ghost use mathlib.Core.Path.{_≡_};
 ghost use Prim.Native.Nat.{_<_, _≤_};
 ghost use Rattle.notes.specs.Notes.{noNotes};
 ghost use Rattle.tilings.specs.Plan.{run};
-ghost use Rattle.tilings.specs.Answers.{answersOf, chosen};
+ghost use Rattle.tilings.specs.Answers.{answersOf, reached};
 ghost use Rattle.families.specs.Plans.{plan3, plan4, plan6, part7, plan7};
 use cube::Cube;
 use cube::Face;
@@ -20,9 +20,9 @@ const FACE_3: [[i8; 8]; 3] = [
     [-3, -2, -2, -1, -5, -4, -1, -5],
 ];
 
-pub fn case_3(q: Cube, c: u8) -> Choice
+pub fn case_3(q: Cube, c: u8) -> Counted
     requires { ⌜ c < 24 ⌝ }
-    ensures { λ r. ⌜ chosen r ≡ run (answersOf q) (plan3 c) noNotes ⌝ }
+    ensures { λ r. ⌜ reached r ≡ run (answersOf q) (plan3 c) noNotes ⌝ }
 {
     if face_answer(q, Face(FACE_3[(c / 8) as usize][(c % 8) as usize])) {
         return plain(TILING_3_2, c);
@@ -30,9 +30,9 @@ pub fn case_3(q: Cube, c: u8) -> Choice
     plain(TILING_3_1, c)
 }
 
-pub fn case_4(q: Cube, c: u8) -> Choice
+pub fn case_4(q: Cube, c: u8) -> Counted
     requires { ⌜ c < 8 ⌝ }
-    ensures { λ r. ⌜ chosen r ≡ run (answersOf q) (plan4 c) noNotes ⌝ }
+    ensures { λ r. ⌜ reached r ≡ run (answersOf q) (plan4 c) noNotes ⌝ }
 {
     settle(
         test_interior_three(q, side(c < 4)),
@@ -52,9 +52,9 @@ const FACE_6: [[i8; 8]; 6] = [
     [-1, -6, -3, -1, -5, -5, -4, -2],
 ];
 
-pub fn case_6(q: Cube, c: u8) -> Choice
+pub fn case_6(q: Cube, c: u8) -> Counted
     requires { ⌜ c < 48 ⌝ }
-    ensures { λ r. ⌜ chosen r ≡ run (answersOf q) (plan6 c) noNotes ⌝ }
+    ensures { λ r. ⌜ reached r ≡ run (answersOf q) (plan6 c) noNotes ⌝ }
 {
     let face = Face(FACE_6[(c / 8) as usize][(c % 8) as usize]);
     if face_answer(q, face) {
@@ -83,9 +83,9 @@ const TILING_OF_7: [u8; 7] = [
 
 const COLUMN_OF_7: [u8; 7] = [0, 0, 1, 0, 2, 1, 2];
 
-fn part_7(q: Cube, c: u8, sub: u32) -> Choice
+fn part_7(q: Cube, c: u8, sub: u32) -> Counted
     requires { ⌜ (c < 16) × (sub ≤ 7) ⌝ }
-    ensures { λ r. ⌜ chosen r ≡ run (answersOf q) (part7 c sub) noNotes ⌝ }
+    ensures { λ r. ⌜ reached r ≡ run (answersOf q) (part7 c sub) noNotes ⌝ }
 {
     if sub == 7 {
         // -s, so 7 in the second half of the rows
@@ -101,9 +101,9 @@ fn part_7(q: Cube, c: u8, sub: u32) -> Choice
     tile(TILING_OF_7[i], c, COLUMN_OF_7[i], notes::none())
 }
 
-pub fn case_7(q: Cube, c: u8) -> Choice
+pub fn case_7(q: Cube, c: u8) -> Counted
     requires { ⌜ c < 16 ⌝ }
-    ensures { λ r. ⌜ chosen r ≡ run (answersOf q) (plan7 c) noNotes ⌝ }
+    ensures { λ r. ⌜ reached r ≡ run (answersOf q) (plan7 c) noNotes ⌝ }
 {
     let i = (c / 8) as usize;
     let k = (c % 8) as usize;

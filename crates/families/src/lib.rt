@@ -10,7 +10,7 @@ ghost use lib.ListN.{getD};
 ghost use Rattle.notes.specs.Notes.{noNotes};
 ghost use Rattle.tilings.specs.Tilings.{configurations, firstTiling, isOneOf};
 ghost use Rattle.tilings.specs.Plan.{run};
-ghost use Rattle.tilings.specs.Answers.{answersOf, chosen};
+ghost use Rattle.tilings.specs.Answers.{answersOf, reached};
 ghost use Rattle.families.specs.Plans.{asking, planOf};
 
 pub mod cases;
@@ -58,17 +58,17 @@ pub fn asks(case: u8) -> bool
 }
 
 // The choice for a configuration of a case that asks nothing.
-pub fn choose_plain(q: Cube, case: u8, c: u8) -> Choice
+pub fn choose_plain(q: Cube, case: u8, c: u8) -> Counted
     requires { ⌜ (c < getD configurations case 0) × (isOneOf case asking ≡ false) ⌝ }
-    ensures { λ r. ⌜ chosen r ≡ run (answersOf q) (planOf case c) noNotes ⌝ }
+    ensures { λ r. ⌜ reached r ≡ run (answersOf q) (planOf case c) noNotes ⌝ }
 {
     plain(first_tiling(case), c)
 }
 
 // The choice for a configuration of a case.
-pub fn choose(q: Cube, case: u8, c: u8) -> Choice
+pub fn choose(q: Cube, case: u8, c: u8) -> Counted
     requires { ⌜ c < getD configurations case 0 ⌝ }
-    ensures { λ r. ⌜ chosen r ≡ run (answersOf q) (planOf case c) noNotes ⌝ }
+    ensures { λ r. ⌜ reached r ≡ run (answersOf q) (planOf case c) noNotes ⌝ }
 {
     match case {
         3 => case_3(q, c),

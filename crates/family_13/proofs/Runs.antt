@@ -17,7 +17,7 @@ use Rattle.thirteen.specs.Thirteen.{case13Of}
 use Rattle.tilings.specs.Tables.{entry}
 use Rattle.tilings.specs.Tilings as Tilings
 use Rattle.tilings.specs.Tilings.{hasCentre}
-use Rattle.tilings.specs.Plan.{Plan, noTiling, tiling, run, untiled}
+use Rattle.tilings.specs.Plan.{Plan, noTiling, tiling, reach, run, untiled}
 use Rattle.tilings.specs.Answers.{answersOf}
 use Rattle.tilings.proofs.Columns.{rowsOf, tabled}
 use Rattle.tilings.proofs.Turns.{in-turn, codeOf, columnOf}
@@ -26,16 +26,16 @@ use Rattle.family_13.specs.Plans.{tile13, parts13, lastFrom, part13, pla
 
 module _ (q : Cube) (c code column : ℕ) where
   pub inside-yes : code ≡ Tilings.«TILING_13_5_1» → (b : Bool) → b ≡ case13Of q → b ≡ true
-      → tiling Tilings.«TILING_13_5_1» c column (hasCentre Tilings.«TILING_13_5_1») noNotes ≡ run (answersOf q) (tile13 c code column) noNotes
+      → reach (tiling Tilings.«TILING_13_5_1» c column (hasCentre Tilings.«TILING_13_5_1»)) noNotes ≡ run (answersOf q) (tile13 c code column) noNotes
   unfolding run tile13
   inside-yes e b f h = rw (e, sym f ∙ h)
 
   pub inside-no : code ≡ Tilings.«TILING_13_5_1» → (b : Bool) → b ≡ case13Of q → b ≡ false
-      → tiling Tilings.«TILING_13_5_2» (1 - c) column (hasCentre Tilings.«TILING_13_5_2») noNotes ≡ run (answersOf q) (tile13 c code column) noNotes
+      → reach (tiling Tilings.«TILING_13_5_2» (1 - c) column (hasCentre Tilings.«TILING_13_5_2»)) noNotes ≡ run (answersOf q) (tile13 c code column) noNotes
   unfolding run tile13
   inside-no e b f h = rw (e, sym f ∙ h)
 
-  pub not-asked : (code ≡ Tilings.«TILING_13_5_1» → ⊥) → tiling code c column (hasCentre code) noNotes ≡ run (answersOf q) (tile13 c code column) noNotes
+  pub not-asked : (code ≡ Tilings.«TILING_13_5_1» → ⊥) → reach (tiling code c column (hasCentre code)) noNotes ≡ run (answersOf q) (tile13 c code column) noNotes
   unfolding run tile13
   not-asked h = rw (ne-eqb code Tilings.«TILING_13_5_1» h)
 
@@ -52,7 +52,7 @@ parted : (c sub : ℕ) → sub ≤ 63 → cond (eqb (code13 sub) 0) (untiled c s
 unfolding part13 parts13 lastFrom tile13 «SUB_CONFIG_13»
 parted c sub l = agree (λ k. cond (eqb (code13 k) 0) (untiled c k) (tile13 c (code13 k) (column13 k))) (part c) 64 refl sub (omega (arith, l))
 
-pub no-tiling : (q : Cube) (c sub : ℕ) → sub ≤ 63 → code13 sub ≡ 0 → noTiling c sub ≡ run (answersOf q) (part c sub) noNotes
+pub no-tiling : (q : Cube) (c sub : ℕ) → sub ≤ 63 → code13 sub ≡ 0 → reach (noTiling c sub) noNotes ≡ run (answersOf q) (part c sub) noNotes
 unfolding run
 no-tiling q c sub l h = rw (sym (parted c sub l), h)
 

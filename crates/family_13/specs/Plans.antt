@@ -35,6 +35,10 @@ unfoldable pub lastFrom : ℕ → Part → List Part → Part
 lastFrom n p [] = p
 lastFrom n p (r ∷ rs) = lastFrom n (cond (leb (r .first) n) r p) rs
 
+-- the part that a number belongs to
+abbrev pub partOf13 : ℕ → Part
+partOf13 n = lastFrom n (part 0 «TILING_13_1») parts13
+
 -- 13_5 makes the case-13 test, and 13_5_2 uses the other configuration's row
 unfoldable pub tile13 : ℕ → ℕ → ℕ → Plan
 tile13 c code column =
@@ -45,7 +49,7 @@ tile13 c code column =
 -- by the sub-configuration and SUB_CONFIG_13's number
 unfoldable pub part13 : ℕ → ℕ → ℤ → Plan
 part13 c sub (negsuc n) = untiled c sub
-part13 c sub (pos n) = let p = lastFrom n (part 0 «TILING_13_1») parts13 in tile13 c (p .code) (n - p .first)
+part13 c sub (pos n) = let p = partOf13 n in tile13 c (p .code) (n - p .first)
 
 unfoldable pub plan13 : ℕ → Plan
 plan13 c =

@@ -6,7 +6,7 @@ ghost use lib.IntN.{negsuc};
 ghost use lib.ListN.{getD};
 ghost use Rattle.notes.specs.Notes.{noNotes};
 ghost use Rattle.tilings.specs.Plan.{run};
-ghost use Rattle.tilings.specs.Answers.{answersOf, chosen};
+ghost use Rattle.tilings.specs.Answers.{answersOf, reached};
 ghost use Rattle.family_13.specs.Tables.{«SUB_CONFIG_13»};
 ghost use Rattle.family_13.specs.Plans.{tile13, part13, plan13};
 use cube::Cube;
@@ -60,9 +60,9 @@ const COLUMN_OF_13: [[u8; 8]; 8] = [
 ];
 
 // 13_5_2 is at the other configuration's row.
-fn tile_13(q: Cube, c: u8, code: u8, column: u8) -> Choice
+fn tile_13(q: Cube, c: u8, code: u8, column: u8) -> Counted
     requires { ⌜ c < 2 ⌝ }
-    ensures { λ r. ⌜ chosen r ≡ run (answersOf q) (tile13 c code column) noNotes ⌝ }
+    ensures { λ r. ⌜ reached r ≡ run (answersOf q) (tile13 c code column) noNotes ⌝ }
 {
     if code == TILING_13_5_1 {
         if interior_test_case13(q) {
@@ -73,13 +73,13 @@ fn tile_13(q: Cube, c: u8, code: u8, column: u8) -> Choice
     tile(code, c, column, notes::none())
 }
 
-fn part_13(q: Cube, c: u8, sub: u32) -> Choice
+fn part_13(q: Cube, c: u8, sub: u32) -> Counted
     requires { ⌜ (c < 2) × (sub ≤ 63) ⌝ }
-    ensures { λ r. ⌜ chosen r ≡ run (answersOf q) (part13 c sub (getD «SUB_CONFIG_13» sub (negsuc 0))) noNotes ⌝ }
+    ensures { λ r. ⌜ reached r ≡ run (answersOf q) (part13 c sub (getD «SUB_CONFIG_13» sub (negsuc 0))) noNotes ⌝ }
 {
     let code = TILING_OF_13[(sub / 4) as usize][(sub % 4) as usize];
     if code == NONE {
-        return Choice::Untiled(c, sub as u8);
+        return untiled(c, sub as u8, notes::none());
     }
     tile_13(
         q,
@@ -89,9 +89,9 @@ fn part_13(q: Cube, c: u8, sub: u32) -> Choice
     )
 }
 
-pub fn case_13(q: Cube, c: u8) -> Choice
+pub fn case_13(q: Cube, c: u8) -> Counted
     requires { ⌜ c < 2 ⌝ }
-    ensures { λ r. ⌜ chosen r ≡ run (answersOf q) (plan13 c) noNotes ⌝ }
+    ensures { λ r. ⌜ reached r ≡ run (answersOf q) (plan13 c) noNotes ⌝ }
 {
     let i = c as usize;
     let low = ask_three(q, Face(FIRST_13[i]), Face(SECOND_13[i]), Face(THIRD_13[i]));

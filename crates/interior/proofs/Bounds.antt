@@ -4,27 +4,24 @@ use mathlib.Core.List.{List, [], _∷_}
 use Prim.Native.Nat.{ℕ, _+_, _≤_}
 use native.Mathlib.Omega.{arith}
 use lib.Dec.{lit≤}
-use lib.IntN.{ℤ}
+use lib.IntN.{ℤ, pos}
 use lib.ListN.{length}
 use Rattle.binary32.specs.Numbers.{Numbers, f32}
 use Rattle.cube.specs.declared.Cube.{Cube}
 use Rattle.cube.specs.Corners.{cornerOf}
 use Rattle.edge.specs.Edge.{Told, rising, beyond, crossed, blank, Quotients, edgeBy, quotients}
 use Rattle.notes.specs.Notes.{total}
-use Rattle.interior.specs.Pick as Pick
-use Rattle.interior.specs.Pick.{Picked, edge, pickBy}
-use Rattle.interior.specs.Interior.{Look, seen, refused, joined, noteOf, seenAs, lookAt, insideBy, insideOf, counted}
-use Rattle.interior.specs.Looks.{lookBy}
+use Rattle.interior.specs.declared.Sight.{Sight}
+use Rattle.interior.specs.Pick.{pickBy}
+use Rattle.interior.specs.Interior.{joined, noteOf, seenAs, lookAt, insideBy, insideOf, counted}
 
 one-or-none : (b : Bool) → cond b 1 0 ≤ 1
 one-or-none true = lit≤ tt
 one-or-none false = lit≤ tt
 
-pub counted-joined : (x y : Look) → counted (joined x y) ≤ counted x + counted y
+pub counted-joined : (x y : Sight) → counted (joined x y) ≤ counted x + counted y
 unfolding joined
-counted-joined (refused n) y = omega arith
-counted-joined (seen a m) (refused n) = omega arith
-counted-joined (seen a m) (seen b n) = omega arith
+counted-joined x y = omega arith
 
 module _ (K : Numbers) (D : Quotients K) where
   counted-reading : (r : Told (D .Q)) → total (noteOf K D r) ≤ 1
@@ -34,15 +31,13 @@ module _ (K : Numbers) (D : Quotients K) where
   counted-reading (crossed t p) = one-or-none (D .nought p)
   counted-reading blank = lit≤ tt
 
-  pub counted-look : (p : Picked) (t : Told (D .Q)) → counted (lookBy p (seenAs K D t)) ≤ 1
-  unfolding lookBy seenAs
-  counted-look (edge z) t = counted-reading t
-  counted-look (Pick.refused n) t = lit≤ tt
+  pub counted-look : (t : Told (D .Q)) → counted (seenAs K D t) ≤ 1
+  unfolding seenAs
+  counted-look t = counted-reading t
 
-  counted-one : (corner : ℕ → K .N) (p : Picked) → counted (lookAt K D corner p) ≤ 1
-  unfolding lookAt seenAs
-  counted-one corner (edge z) = counted-reading (edgeBy K D corner z)
-  counted-one corner (Pick.refused n) = lit≤ tt
+  counted-one : (corner : ℕ → K .N) (n : ℕ) → counted (lookAt K D corner n) ≤ 1
+  unfolding lookAt
+  counted-one corner n = counted-look (edgeBy K D corner (pos n))
 
   counted-all : (corner : ℕ → K .N) (faces : List ℕ) (s : ℤ) → counted (insideBy K D corner faces s) ≤ length faces
   unfolding insideBy

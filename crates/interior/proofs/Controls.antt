@@ -1,5 +1,5 @@
 -- That the definitions say something, by computation: diagonal picks for each face with each pair, with two at once and with none; and interior tests.
--- Expected edges, values and counts are those of the Rust; refusal 9 is document 01's. Values are written as bits. Assumes nothing.
+-- Expected edges, values and counts are those of the Rust. Values are written as bits. Assumes nothing.
 use mathlib.Core.Path.{_≡_, refl}
 use mathlib.Core.Bool.{Bool, true, false}
 use mathlib.Core.List.{List, [], _∷_, map}
@@ -10,9 +10,9 @@ use Rattle.binary32.specs.Numbers.{f32}
 use Rattle.cube.specs.declared.Cube.{Cube}
 use Rattle.cube.specs.Corners.{corners, valueAt, cornerOf, cube}
 use Rattle.edge.specs.Edge.{moves, moveOf, crossBy, readBy, edgeBy}
-use Rattle.interior.specs.Pick as Pick
-use Rattle.interior.specs.Pick.{diagonals, lastMatch, Picked, edge, pickWith, pickBy}
-use Rattle.interior.specs.Interior.{Look, seen, refused, joined, noteOf, seenAs, lookAt, insideBy, insideOf}
+use Rattle.interior.specs.declared.Sight.{Sight}
+use Rattle.interior.specs.Pick.{diagonals, lastMatch, pickWith, pickBy}
+use Rattle.interior.specs.Interior.{seen, joined, noteOf, seenAs, lookAt, insideBy, insideOf}
 
 -- 1, -1 and -0
 abbrev up : ℕ
@@ -24,18 +24,14 @@ down = 0xbf800000
 abbrev minus-zero : ℕ
 minus-zero = 0x80000000
 
--- ---- picks: what is said for faces 0 to 7; 0 and 7 are refused
+-- ---- picks: the edges for faces 1 to 6
 record Row : Type 0 where
   q : Cube
   s : ℤ
-  says : List Picked
+  says : List ℕ
 
 abbrev row : Cube → ℤ → ℕ → ℕ → ℕ → ℕ → ℕ → ℕ → Row
-row q s a b c d e f = record {
-  q = q;
-  s = s;
-  says = Pick.refused 9 ∷ edge (pos a) ∷ edge (pos b) ∷ edge (pos c) ∷ edge (pos d) ∷ edge (pos e) ∷ edge (pos f) ∷ Pick.refused 9 ∷ [];
-}
+row q s a b c d e f = record { q = q; s = s; says = a ∷ b ∷ c ∷ d ∷ e ∷ f ∷ [] }
 
 rows : List Row
 rows =
@@ -70,7 +66,7 @@ rows =
     ∷ row (cube down down 0x7fc00000 down 0x7fc00000 down down down) (pos 7) 0 0 0 0 0 0
     ∷ []
 
-rows-hold : map (λ t. map (pickBy f32 (cornerOf (t .q)) (t .s)) (0 ∷ 1 ∷ 2 ∷ 3 ∷ 4 ∷ 5 ∷ 6 ∷ 7 ∷ [])) rows ≡ map (λ t. t .says) rows
+rows-hold : map (λ t. map (pickBy f32 (cornerOf (t .q)) (t .s)) (1 ∷ 2 ∷ 3 ∷ 4 ∷ 5 ∷ 6 ∷ [])) rows ≡ map (λ t. t .says) rows
 unfolding rows pickBy pickWith lastMatch diagonals cornerOf valueAt corners ofBits mul lt ofInt
 rows-hold = refl
 
@@ -79,12 +75,12 @@ record Test : Type 0 where
   q : Cube
   faces : List ℕ
   s : ℤ
-  says : Look
+  says : Sight
 
-abbrev test : Cube → List ℕ → ℤ → Look → Test
+abbrev test : Cube → List ℕ → ℤ → Sight → Test
 test q ns s l = record { q = q; faces = ns; s = s; says = l }
 
-abbrev sees : Bool → ℕ → Look
+abbrev sees : Bool → ℕ → Sight
 sees b n = seen b (record { unsettled = n })
 
 -- those of cases 4 and 7
@@ -119,11 +115,6 @@ tests =
     ∷ test (cube 0 0 0 0 0 0 0 0) three (pos 7) (sees false 0)
     -- no pair matches: edge 0 is read each time
     ∷ test (cube 0x40000000 0xc0000000 0x40400000 0xc0400000 0xc0000000 0x40000000 0xc0000000 0x40000000) three (pos 7) (sees false 3)
-    -- a face that is none of the six is refused wherever it stands
-    ∷ test mixed (0 ∷ []) (pos 7) (refused 9)
-    ∷ test mixed (7 ∷ 5 ∷ []) (pos 7) (refused 9)
-    ∷ test mixed (5 ∷ 0 ∷ []) (pos 7) (refused 9)
-    ∷ test mixed (1 ∷ 2 ∷ 7 ∷ []) (pos 7) (refused 9)
     ∷ []
 
 tests-hold : map (λ t. insideOf (t .q) (t .faces) (t .s)) tests ≡ map (λ t. t .says) tests

@@ -1,5 +1,5 @@
 pub mod Bounds
 mod Controls
 mod Insides
-mod Picks
+pub mod Picks
 mod Sights

@@ -1,13 +1,11 @@
 -- The diagonal pick as code makes it: the four pairs, their set as a number, and the edge that is its digit. Assumes nothing.
-use mathlib.Core.Path.{_≡_, refl, sym, subst}
-use mathlib.Core.Logic.{inl, inr}
-use mathlib.Core.Bool.{Bool, true, false, _&&_, _||_, and-false, true≢false}
-use mathlib.Core.List.{[], _∷_}
+use mathlib.Core.Path.{_≡_, refl, sym, ap, subst}
+use mathlib.Core.Bool.{Bool, true, false, cond, _&&_}
+use mathlib.Core.List.{List, [], _∷_}
 use Prim.Native.Nat.{ℕ, zero, suc, _+_, _*_, _/_, _%_, _^_, _≤_, _<_}
 use native.Mathlib.Omega.{arith}
-use borrow.Author.Tests.{ltb-false, le-leb, lt-leb}
-use lib.Dec.{T, leb, ltb, eqb, eqb→eq, ltb→lt}
-use lib.IntN.{ℤ}
+use lib.Dec.{T, ltb, eqb, eqb→eq, ltb→lt, lt→ltb}
+use lib.IntN.{ℤ, pos}
 use lib.ListN.{getD}
 use lib.Ieee.{Float, binary32, mul, lt, ofBits, ofInt}
 use lib.Ieee.Fits.{and-l, and-r}
@@ -15,13 +13,13 @@ use mir.Syntax.{w8}
 use mir.Val.{SFits, toZ, ofZ}
 use mir.ValLaws.{toZ-ofZ, toZ-pos}
 use Rattle.binary32.specs.Numbers.{f32}
-use Rattle.binary32.proofs.Bools.{either}
 use Rattle.cube.specs.declared.Cube.{Cube}
 use Rattle.cube.specs.Bits.{bitOf, numberOf}
 use Rattle.cube.specs.Corners.{corners, valueAt, cornerOf}
 use Rattle.cube.proofs.Table.{allUnder, under}
+use Rattle.edge.specs.Edge.{isEdge}
 use Rattle.interior.specs.declared.Diagonals.{Diagonals}
-use Rattle.interior.specs.Pick.{diagonals, lastMatch, edge, refused, pickWith, pickBy}
+use Rattle.interior.specs.Pick.{Diagonal, diagonals, lastMatch, pickWith, pickBy}
 use Rattle.interior.specs.Diagonals.{diagonalsOf, heldBy, setOf, edgesOf}
 
 -- ---- the four pairs: s comes as a float made of the bits of an i8
@@ -41,17 +39,10 @@ pub bounded : (d : Diagonals) (k l : ℕ) → (k ≤ 7) × (k ≡ numberOf (d .f
 unfolding setOf numberOf
 bounded d k l (h, e) (i, f) = (omega arith, omega (arith, e, f))
 
--- ---- the edges by set; past the six faces there are none
-pub no-edges : (n : ℕ) → (n ≡ 1 → ⊥) → (n ≡ 2 → ⊥) → (n ≡ 3 → ⊥) → (n ≡ 4 → ⊥) → (n ≡ 5 → ⊥) → (n ≡ 6 → ⊥) → 0 ≡ edgesOf n
+-- ---- the edges by set: past the first five faces there is the sixth alone
+pub last-edges : (n : ℕ) → n ≤ 6 → 6 ≤ n → 0xbbbbbbbbaaaa9980 ≡ edgesOf n
 unfolding edgesOf
-no-edges zero a b c d e f = refl
-no-edges (suc zero) a b c d e f = absurd (a refl)
-no-edges (suc (suc zero)) a b c d e f = absurd (b refl)
-no-edges (suc (suc (suc zero))) a b c d e f = absurd (c refl)
-no-edges (suc (suc (suc (suc zero)))) a b c d e f = absurd (d refl)
-no-edges (suc (suc (suc (suc (suc zero))))) a b c d e f = absurd (e refl)
-no-edges (suc (suc (suc (suc (suc (suc zero)))))) a b c d e f = absurd (f refl)
-no-edges (suc (suc (suc (suc (suc (suc (suc n))))))) a b c d e f = refl
+last-edges n h l = ap edgesOf {x = 6} {y = n} (omega (arith, h, l))
 
 -- the digit at a set is the edge of the last pair that matches: one test over all sets and faces
 module _ (d : Diagonals) (n : ℕ) where
@@ -84,27 +75,43 @@ right-at a b c e = each (right a b c) (each (λ c. always (right a b c)) (each (
 last-digit : (d : Diagonals) (n : ℕ) → n ≤ 6 → digit d n ≡ last d n
 last-digit d n h = eqb→eq (digit d n) (last d n) (under 7 (λ n. eqb (digit d n) (last d n)) (right-at (d .from0) (d .from1) (d .from2) (d .from3)) n (omega arith))
 
--- ---- the pick, where the face is one of 1 to 6 and where it is not
-neither : (p q : Bool) → p || q ≡ false → (p ≡ false) × (q ≡ false)
-neither true q e = (e, absurd (true≢false e))
-neither false q e = (refl, e)
+-- ---- whatever matches, an edge is picked: one of the pairs' or edge 0
+abbrev allEdges : List Diagonal → Bool
+allEdges [] = true
+allEdges (d ∷ ds) = ltb (d .edge) 12 && allEdges ds
 
-module _ (d : Diagonals) (n : ℕ) where
-  pub outside : ltb n 1 || ltb 6 n ≡ true → refused 9 ≡ pickWith (heldBy d) n
-  unfolding pickWith
-  outside t =
-      elim (either (ltb n 1) (ltb 6 n) (subst T (sym t) tt)) [
-        | inl h ↦ rw (lt-leb 1 n (ltb→lt n 1 h))
-        | inr h ↦ rw (lt-leb n 6 (ltb→lt 6 n h), and-false (leb 1 n))
-      ]
+last-below : (matches : Diagonal → Bool) (edge : ℕ) (ds : List Diagonal) → edge < 12 → T (allEdges ds) → lastMatch matches edge ds < 12
+unfolding lastMatch
+last-below matches edge [] h t = h
+last-below matches edge (d ∷ ds) h t =
+    last-below matches (cond (matches d) (d .edge) edge) ds
+    (by-match (matches d) (d .edge) edge (ltb→lt (d .edge) 12 (and-l (ltb (d .edge) 12) (allEdges ds) t)) h)
+    (and-r (ltb (d .edge) 12) (allEdges ds) t)
+  where
+    by-match : (b : Bool) (k l : ℕ) → k < 12 → l < 12 → cond b k l < 12
+    by-match true k l i h = i
+    by-match false k l i h = h
 
-  pub inside : ltb n 1 || ltb 6 n ≡ false → (es set : ℕ) → es ≡ edgesOf n → (set ≤ 15) × (set ≡ setOf d) → edge (toZ w8 (es / 2 ^ (4 * set) % 16)) ≡ pickWith (heldBy d) n
+all-edges : T (allUnder 7 (λ n. allEdges (getD diagonals n [])))
+unfolding diagonals
+all-edges = tt
+
+pub an-edge : (matches : Diagonal → Bool) (n : ℕ) → n ≤ 6 → pickWith matches n < 12
+unfolding pickWith
+an-edge matches n h = last-below matches 0 (getD diagonals n []) (omega arith) (under 7 (λ n. allEdges (getD diagonals n [])) all-edges n (omega (arith, h)))
+
+-- ---- the pick
+module _ (d : Diagonals) (n : ℕ) (h : n ≤ 6) where
+  pub edge-picked : (es set : ℕ) → es ≡ edgesOf n → (set ≤ 15) × (set ≡ setOf d)
+      → (toZ w8 (es / 2 ^ (4 * set) % 16) ≡ pos (pickWith (heldBy d) n)) × T (isEdge (toZ w8 (es / 2 ^ (4 * set) % 16)))
   unfolding pickWith
-  inside f es set ee (h, se) =
-      let fs = neither (ltb n 1) (ltb 6 n) f in
-      let u = ltb-false 6 n (fs .1) in
-      let small : digit d n < 128 = omega arith in
-      rw (le-leb 1 n (ltb-false n 1 (fs .0)), le-leb n 6 u, ee, se, ← last-digit d n u, toZ-pos w8 (digit d n) small)
+  edge-picked es set ee (l, se) = (e, subst (λ (z : ℤ). T (isEdge z)) (sym e) (lt→ltb (pickWith (heldBy d) n) 12 (an-edge (heldBy d) n h)))
+    where
+      small : digit d n < 128
+      small = omega arith
+
+      e : toZ w8 (es / 2 ^ (4 * set) % 16) ≡ pos (pickWith (heldBy d) n)
+      e = rw (ee, se, ← last-digit d n h, toZ-pos w8 (digit d n) small)
 
 -- ---- the pairs as the code holds them give document 01's picks
 pub same-picks : (q : Cube) (s : ℤ) (n : ℕ) → pickWith (heldBy (diagonalsOf q s)) n ≡ pickBy f32 (cornerOf q) s n

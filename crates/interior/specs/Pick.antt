@@ -1,14 +1,10 @@
 -- Document 01, 'Diagonal pick', over any kind of number. Definitions only.
-use Prim.Native.Nat.{ℕ}
+use Prim.Native.Nat.{ℕ, _≤_}
 use mathlib.Core.Bool.{Bool, cond, _&&_}
 use mathlib.Core.List.{List, [], _∷_}
-use lib.IntN.{ℤ, pos}
-use lib.Dec.{leb}
+use lib.IntN.{ℤ}
 use lib.ListN.{getD}
 use Rattle.binary32.specs.Numbers.{Numbers}
-use Rattle.cube.specs.Refusals.{refusalNumber}
-use Rattle.interior.specs.declared.Pick.{Pick}
-use Rattle.interior.specs.declared.Pick.the-variants.{Edge, Refused}
 
 -- a pair of corners and the edge that it leads to
 pub record Diagonal : Type 0 where
@@ -31,6 +27,10 @@ diagonals24 = pair 1 7 0 ∷ pair 2 4 1 ∷ pair 3 5 2 ∷ pair 0 6 3 ∷ []
 abbrev pub diagonals56 : List Diagonal
 diagonals56 = pair 0 6 8 ∷ pair 1 7 9 ∷ pair 2 4 10 ∷ pair 3 5 11 ∷ []
 
+-- an ambiguous face is one of 1 to 6
+abbrev pub IsAmbiguousFace : ℕ → Type 0
+IsAmbiguousFace n = (1 ≤ n) × (n ≤ 6)
+
 -- by ambiguous face; there is no face 0
 unfoldable pub diagonals : List (List Diagonal)
 diagonals = [] ∷ diagonals13 ∷ diagonals24 ∷ diagonals13 ∷ diagonals24 ∷ diagonals56 ∷ diagonals56 ∷ []
@@ -40,13 +40,9 @@ unfoldable pub lastMatch : (Diagonal → Bool) → ℕ → List Diagonal → ℕ
 lastMatch matches edge [] = edge
 lastMatch matches edge (d ∷ ds) = lastMatch matches (cond (matches d) (d .edge) edge) ds
 
-pub data Picked : Type 0 where
-  edge : ℤ → Picked
-  refused : ℕ → Picked
-
--- no match: edge 0. An ambiguous face outside 1..6 is refusal 9
-unfoldable pub pickWith : (Diagonal → Bool) → ℕ → Picked
-pickWith matches n = cond (leb 1 n && leb n 6) (edge (pos (lastMatch matches 0 (getD diagonals n [])))) (refused 9)
+-- no match: edge 0
+unfoldable pub pickWith : (Diagonal → Bool) → ℕ → ℕ
+pickWith matches n = lastMatch matches 0 (getD diagonals n [])
 
 module _ (K : Numbers) where
   open Numbers K using (N, times, small, above)
@@ -55,10 +51,5 @@ module _ (K : Numbers) where
   abbrev pub matchesBy : (ℕ → N) → ℤ → Diagonal → Bool
   matchesBy corner s d = above (times (corner (d .one)) (small s)) && above (times (corner (d .other)) (small s))
 
-  unfoldable pub pickBy : (ℕ → N) → ℤ → ℕ → Picked
+  unfoldable pub pickBy : (ℕ → N) → ℤ → ℕ → ℕ
   pickBy corner s n = pickWith (matchesBy corner s) n
-
--- the picks of the code by document 01's numbers
-abbrev pub picked : Pick → Picked
-picked (Edge e) = edge (e .0)
-picked (Refused why) = refused (refusalNumber why)

@@ -4,18 +4,16 @@
 ghost use mathlib.Core.Path.{_≡_};
 ghost use Prim.Native.Nat.{_+_, _≤_};
 ghost use mathlib.Core.List.{[], _∷_};
+ghost use lib.Dec.{T};
+ghost use lib.IntN.{pos};
 ghost use Rattle.binary32.specs.Numbers.{f32};
-ghost use Rattle.cube.specs.Corners.{valueAt};
-ghost use Rattle.edge.specs.Edge.{crossed, quotients, valued, told};
-ghost use Rattle.edge.specs.Moves.{movesOf, readOf};
-ghost use Rattle.notes.specs.Notes.{total};
-ghost use Rattle.interior.specs.Pick.{pickWith, picked};
+ghost use Rattle.edge.specs.Edge.{crossed, quotients, valued, told, isEdge};
+ghost use Rattle.edge.specs.Moves.{readOf};
+ghost use Rattle.interior.specs.Pick.{IsAmbiguousFace, pickWith};
 ghost use Rattle.interior.specs.Diagonals.{diagonalsOf, heldBy, setOf, edgesOf};
-ghost use Rattle.interior.specs.Interior.{seen, noteOf, seenAs, joined, counted, insideOf, looked};
-ghost use Rattle.interior.specs.Looks.{edgeIn, lookBy};
+ghost use Rattle.interior.specs.Interior.{noteOf, seenAs, joined, counted, insideOf};
 use cube::Cube;
 use cube::EdgeNo;
-use cube::Refusal;
 use cube::bits::bit;
 use cube::bits::three;
 use edge::Moves;
@@ -28,22 +26,10 @@ pub struct AmbiguousFace(pub u32);
 // The signed number s of an interior test.
 pub struct Side(pub i8);
 
-// The edge that a pick leads to.
-pub enum Pick {
-    Edge(EdgeNo),
-    Refused(Refusal),
-}
-
-// Whether a reading's value was 1, and what was counted.
+// What an interior test sees: whether a reading's value was 1, and what was counted.
 pub struct Sight {
     pub hit: bool,
     pub notes: Notes,
-}
-
-// What an interior test finds.
-pub enum Found {
-    Seen(Sight),
-    Refused(Refusal),
 }
 
 // Which of the pairs (0,6), (1,7), (2,4) and (3,5) match.
@@ -75,6 +61,7 @@ fn set_of(d: Diagonals) -> u32
 
 // The edges that a face's pairs lead to: the hex digit at place k is the edge for the set k.
 fn edges(n: u32) -> u64
+    requires { ⌜ IsAmbiguousFace n ⌝ }
     ensures { λ r. ⌜ r ≡ edgesOf n ⌝ }
 {
     match n {
@@ -83,20 +70,17 @@ fn edges(n: u32) -> u64
         3 => 0x7777_6666_7777_5450,
         4 => 0x3232_3232_3131_3030,
         5 => 0xbbbb_bbbb_aaaa_9980,
-        6 => 0xbbbb_bbbb_aaaa_9980,
-        _ => 0,
+        _ => 0xbbbb_bbbb_aaaa_9980,
     }
 }
 
 // The diagonal pick, from the pairs that match: with those of `diagonals_of`, document 01's.
-fn interior_ambiguity(d: Diagonals, face: AmbiguousFace) -> Pick
-    ensures { λ r. ⌜ picked r ≡ pickWith (heldBy d) (face .0) ⌝ }
+fn interior_ambiguity(d: Diagonals, face: AmbiguousFace) -> EdgeNo
+    requires { ⌜ IsAmbiguousFace (face .0) ⌝ }
+    ensures pick { λ r. ⌜ r .0 ≡ pos (pickWith (heldBy d) (face .0)) ⌝ }
+    ensures edge { λ r. ⌜ T (isEdge (r .0)) ⌝ }
 {
-    let n = face.0;
-    if (n < 1) | (6 < n) {
-        return Pick::Refused(Refusal::OutsideTable);
-    }
-    Pick::Edge(EdgeNo(((edges(n) >> (4 * set_of(d))) % 16) as i8))
+    EdgeNo(((edges(face.0) >> (4 * set_of(d))) % 16) as i8)
 }
 
 // One unsettled where the product compares equal to zero.
@@ -134,7 +118,7 @@ fn note_of(r: Reading) -> Notes
 
 // What a reading says: a value of 1, and a product equal to zero is unsettled.
 fn sight_of(r: Reading) -> Sight
-    ensures { λ x. ⌜ seen (x .hit) (x .notes) ≡ seenAs f32 quotients (told r) ⌝ }
+    ensures { λ x. ⌜ x ≡ seenAs f32 quotients (told r) ⌝ }
 {
     Sight {
         hit: value_of(r),
@@ -142,37 +126,17 @@ fn sight_of(r: Reading) -> Sight
     }
 }
 
-// The edge whose moves are read: where the pick is refused any edge does, since nothing is read by them.
-fn edge_in(p: Pick) -> EdgeNo
-    ensures { λ r. ⌜ r .0 ≡ edgeIn (picked p) ⌝ }
+// What is read by the moves of an edge.
+fn look(m: Moves) -> Sight
+    ensures { λ r. ⌜ r ≡ seenAs f32 quotients (readOf m) ⌝ }
 {
-    match p {
-        Pick::Edge(e) => e,
-        Pick::Refused(_) => EdgeNo(0),
-    }
-}
-
-// Its moves.
-fn moves_at(values: &[f32; 8], p: Pick) -> Moves
-    ensures { λ r. ⌜ r ≡ movesOf (valueAt (now (values .entry))) (edgeIn (picked p)) ⌝ }
-{
-    edge::moves_of(values, edge_in(p))
-}
-
-// What is read by the moves of the edge that is picked.
-fn look(p: Pick, m: Moves) -> Found
-    ensures { λ r. ⌜ looked r ≡ lookBy (picked p) (seenAs f32 quotients (readOf m)) ⌝ }
-{
-    match p {
-        Pick::Edge(_) => Found::Seen(sight_of(edge::read(m))),
-        Pick::Refused(why) => Found::Refused(why),
-    }
+    sight_of(edge::read(m))
 }
 
 // Two sights as one: true if any, the counts added.
-fn both(x: Sight, y: Sight) -> Sight
-    requires { ⌜ total (x .notes) + total (y .notes) ≤ 255 ⌝ }
-    ensures { λ r. ⌜ seen (r .hit) (r .notes) ≡ joined (seen (x .hit) (x .notes)) (seen (y .hit) (y .notes)) ⌝ }
+fn join(x: Sight, y: Sight) -> Sight
+    requires { ⌜ counted x + counted y ≤ 255 ⌝ }
+    ensures { λ r. ⌜ r ≡ joined x y ⌝ }
 {
     Sight {
         hit: x.hit | y.hit,
@@ -180,51 +144,43 @@ fn both(x: Sight, y: Sight) -> Sight
     }
 }
 
-fn join(x: Found, y: Found) -> Found
-    requires { ⌜ counted (looked x) + counted (looked y) ≤ 255 ⌝ }
-    ensures { λ r. ⌜ looked r ≡ joined (looked x) (looked y) ⌝ }
-{
-    match x {
-        Found::Refused(why) => Found::Refused(why),
-        Found::Seen(a) => match y {
-            Found::Refused(why) => Found::Refused(why),
-            Found::Seen(b) => Found::Seen(both(a, b)),
-        },
-    }
-}
-
 // The interior test for one face, of cases 6 and 10.
-pub fn test_interior(q: Cube, k: AmbiguousFace, side: Side) -> Found
-    ensures { λ r. ⌜ looked r ≡ insideOf q (k .0 ∷ []) (side .0) ⌝ }
+pub fn test_interior(q: Cube, k: AmbiguousFace, side: Side) -> Sight
+    requires { ⌜ IsAmbiguousFace (k .0) ⌝ }
+    ensures { λ r. ⌜ r ≡ insideOf q (k .0 ∷ []) (side .0) ⌝ }
 {
     let values = cube::values(q);
-    let p = interior_ambiguity(diagonals_of(q, side), k);
-    look(p, moves_at(&values, p))
+    let e = interior_ambiguity(diagonals_of(q, side), k);
+    look(edge::moves_of(&values, e))
 }
 
 // For two faces, of case 12. All readings are made.
-pub fn test_interior_two(q: Cube, k: AmbiguousFace, l: AmbiguousFace, side: Side) -> Found
-    ensures { λ r. ⌜ looked r ≡ insideOf q (k .0 ∷ l .0 ∷ []) (side .0) ⌝ }
+pub fn test_interior_two(q: Cube, k: AmbiguousFace, l: AmbiguousFace, side: Side) -> Sight
+    requires { ⌜ IsAmbiguousFace (k .0) × IsAmbiguousFace (l .0) ⌝ }
+    ensures { λ r. ⌜ r ≡ insideOf q (k .0 ∷ l .0 ∷ []) (side .0) ⌝ }
 {
     let values = cube::values(q);
     let d = diagonals_of(q, side);
-    let p = interior_ambiguity(d, k);
-    let o = interior_ambiguity(d, l);
-    join(look(p, moves_at(&values, p)), look(o, moves_at(&values, o)))
+    let e = interior_ambiguity(d, k);
+    let f = interior_ambiguity(d, l);
+    join(
+        look(edge::moves_of(&values, e)),
+        look(edge::moves_of(&values, f)),
+    )
 }
 
 // For faces 1, 2 and 5, of cases 4 and 7. All readings are made.
-pub fn test_interior_three(q: Cube, side: Side) -> Found
-    ensures { λ r. ⌜ looked r ≡ insideOf q (1 ∷ 2 ∷ 5 ∷ []) (side .0) ⌝ }
+pub fn test_interior_three(q: Cube, side: Side) -> Sight
+    ensures { λ r. ⌜ r ≡ insideOf q (1 ∷ 2 ∷ 5 ∷ []) (side .0) ⌝ }
 {
     let values = cube::values(q);
     let d = diagonals_of(q, side);
-    let p1 = interior_ambiguity(d, AmbiguousFace(1));
-    let p2 = interior_ambiguity(d, AmbiguousFace(2));
-    let p5 = interior_ambiguity(d, AmbiguousFace(5));
+    let e1 = interior_ambiguity(d, AmbiguousFace(1));
+    let e2 = interior_ambiguity(d, AmbiguousFace(2));
+    let e5 = interior_ambiguity(d, AmbiguousFace(5));
     let rest = join(
-        look(p2, moves_at(&values, p2)),
-        look(p5, moves_at(&values, p5)),
+        look(edge::moves_of(&values, e2)),
+        look(edge::moves_of(&values, e5)),
     );
-    join(look(p1, moves_at(&values, p1)), rest)
+    join(look(edge::moves_of(&values, e1)), rest)
 }

@@ -9,7 +9,7 @@ use Rattle.cube.proofs.Table.{allUnder}
 use Rattle.notes.specs.Notes.{noNotes}
 use Rattle.interior.specs.Interior.{seen}
 use Rattle.tilings.specs.Tilings.{isOneOf, columnsOf}
-use Rattle.tilings.specs.Plan.{Plan, nothing, untiled, tile, ask, Answers, Chosen, tiling, run}
+use Rattle.tilings.specs.Plan.{Plan, nothing, untiled, tile, ask, Answers, Chosen, tiling, Reached, reach, run}
 
 -- below 0
 abbrev pub isBelow : ℤ → Bool
@@ -26,13 +26,13 @@ reaches code column (ask question p r) = reaches code column p || reaches code c
 abbrev pub reachesAll : List ℕ → Plan → Bool
 reachesAll codes p = foldr _&&_ true (map (λ code. allUnder (columnsOf code) (λ k. reaches code k p)) codes)
 
--- ---- a plan with its answers: the faces that are true, and `yes`, the answer of the case-13 test and of the interior test for an s above 0; for an s
+-- ---- a plan with its answers and the choice that it makes, with nothing counted: the faces that are true, and `yes`, the answer of the case-13 test and of the interior test for an s above 0; for an s
 -- below 0 the interior test answers the other way
 pub record Test : Type 0 where
   pub plan : Plan
   pub faces : List ℕ
   pub yes : Bool
-  pub makes : Chosen
+  pub makes : Reached
 
 abbrev answers : Test → Answers
 answers t = record {
@@ -41,18 +41,18 @@ answers t = record {
   insides13 = t .yes;
 }
 
-abbrev pub chosenIn : Test → Chosen
+abbrev pub chosenIn : Test → Reached
 chosenIn t = run (answers t) (t .plan) noNotes
 
 abbrev pub test : Plan → List ℕ → Bool → Chosen → Test
-test p faces b x = record { plan = p; faces = faces; yes = b; makes = x }
+test p faces b x = record { plan = p; faces = faces; yes = b; makes = reach x noNotes }
 
 -- code, row and column of a tiling drawn without the centre, and with it
 abbrev pub tiled : ℕ → ℕ → ℕ → Chosen
-tiled code row column = tiling code row column false noNotes
+tiled code row column = tiling code row column false
 
 abbrev pub centred : ℕ → ℕ → ℕ → Chosen
-centred code row column = tiling code row column true noNotes
+centred code row column = tiling code row column true
 
 -- ---- s by the set of the corners above 0 that the source's CASES has for the row, a bit for each corner: 7 where they are at most four
 abbrev corners : ℕ → ℕ → ℕ

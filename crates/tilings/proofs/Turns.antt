@@ -9,7 +9,7 @@ use Rattle.cube.specs.declared.Cube.{Cube}
 use Rattle.cube.specs.Bits.{bitOf, numberOf}
 use Rattle.face.specs.Face.{faceOf}
 use Rattle.notes.specs.declared.Notes.{Notes}
-use Rattle.tilings.specs.Plan.{Plan, Answers, Chosen, run, askInTurn, nothing, tile, untiled, ask}
+use Rattle.tilings.specs.Plan.{Plan, Answers, Reached, run, askInTurn, nothing, tile, untiled, ask}
 
 module _ (w : Answers) where
   pub in-turn : (ns : List ℤ) (next : ℕ → Plan) (m : Notes) → run w (askInTurn ns next) m ≡ run w (next (numberOf (map (w .faces) ns))) m
@@ -20,7 +20,7 @@ module _ (w : Answers) where
       (in-turn ns (λ k. next (1 + 2 * k)) m)
       (in-turn ns (λ k. next (2 * k)) m)
     where
-      by-answer : (b : Bool) (x y : Chosen) (next : ℕ → Plan) (k : ℕ) (m : Notes) → x ≡ run w (next (1 + 2 * k)) m → y ≡ run w (next (2 * k)) m
+      by-answer : (b : Bool) (x y : Reached) (next : ℕ → Plan) (k : ℕ) (m : Notes) → x ≡ run w (next (1 + 2 * k)) m → y ≡ run w (next (2 * k)) m
           → cond b x y ≡ run w (next (bitOf b + 2 * k)) m
       by-answer true x y next k m e f = e
       by-answer false x y next k m e f = f ∙ ap (λ (j : ℕ). run w (next j) m) (omega arith)

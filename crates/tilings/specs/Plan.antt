@@ -6,8 +6,7 @@ use mathlib.Core.List.{List, [], _∷_}
 use lib.IntN.{ℤ}
 use Rattle.notes.specs.declared.Notes.{Notes}
 use Rattle.notes.specs.Notes.{added}
-use Rattle.interior.specs.Interior.{Look, seen}
-use Rattle.interior.specs.Interior as Interior
+use Rattle.interior.specs.declared.Sight.{Sight}
 use Rattle.tilings.specs.Tilings.{hasCentre}
 
 pub data Question : Type 0 where
@@ -35,27 +34,33 @@ askInTurn (n ∷ ns) next = ask (face n) (askInTurn ns (λ k. next (1 + 2 * k)))
 -- a cube's answers
 pub record Answers : Type 0 where
   pub faces : ℤ → Bool
-  pub insides : List ℕ → ℤ → Look
+  pub insides : List ℕ → ℤ → Sight
   pub insides13 : Bool
 
--- document 01, 'A choice', or the number of a refusal
+-- document 01, 'A choice'
 pub data Chosen : Type 0 where
   empty : Chosen
   -- configuration and sub-configuration
   noTiling : ℕ → ℕ → Chosen
-  -- code, row, column, centre and what was counted
-  tiling : ℕ → ℕ → ℕ → Bool → Notes → Chosen
-  refused : ℕ → Chosen
+  -- code, row, column and centre
+  tiling : ℕ → ℕ → ℕ → Bool → Chosen
+
+-- a choice, and what was counted on the way to it
+pub record Reached : Type 0 where
+  pub choice : Chosen
+  pub notes : Notes
+
+abbrev pub reach : Chosen → Notes → Reached
+reach x m = record { choice = x; notes = m }
 
 -- where an interior test leads, with what it counted added
-unfoldable pub settled : Look → (Notes → Chosen) → (Notes → Chosen) → Notes → Chosen
-settled (seen hit k) f g m = cond hit (f (added m k)) (g (added m k))
-settled (Interior.refused n) f g m = refused n
+unfoldable pub settled : Sight → (Notes → Reached) → (Notes → Reached) → Notes → Reached
+settled x f g m = cond (x .hit) (f (added m (x .notes))) (g (added m (x .notes)))
 
-unfoldable pub run : Answers → Plan → Notes → Chosen
-run w nothing m = empty
-run w (untiled c sub) m = noTiling c sub
-run w (tile code row column) m = tiling code row column (hasCentre code) m
+unfoldable pub run : Answers → Plan → Notes → Reached
+run w nothing m = reach empty m
+run w (untiled c sub) m = reach (noTiling c sub) m
+run w (tile code row column) m = reach (tiling code row column (hasCentre code)) m
 run w (ask (face n) p r) m = cond (w .faces n) (run w p m) (run w r m)
 run w (ask (inside ns s) p r) m = settled (w .insides ns s) (run w p) (run w r) m
 run w (ask inside13 p r) m = cond (w .insides13) (run w p m) (run w r m)

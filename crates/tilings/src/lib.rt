@@ -1,34 +1,33 @@
-// Document 01, 'A choice': a choice, the tilings by the source's table names with their codes, and what makes
-// a choice of them (`tile`, `plain`, `settle`, `has_centre`). Also what the cases that ask something share: s (`side`), the
-// ambiguous face (`ambiguous`), three faces asked (`ask_three`).
+// Document 01, 'A choice': a choice and what was counted on the way to it, the tilings by the source's table names
+// with their codes, and what makes a choice (`nothing`, `untiled`, `tile`, `plain`, `settle`, `has_centre`). Also what the
+// cases that ask something share: s (`side`), the ambiguous face (`ambiguous`), three faces asked (`ask_three`).
 ghost use mathlib.Core.Path.{_≡_};
 ghost use mathlib.Core.List.{[], _∷_, map};
 ghost use Prim.Native.Nat.{_≤_};
+ghost use lib.Dec.{T};
+ghost use lib.IntN.{natAbs};
 ghost use Rattle.cube.specs.Bits.{numberOf};
-ghost use Rattle.face.specs.Face.{faceOf};
-ghost use Rattle.face.specs.Columns.{placeOf};
+ghost use Rattle.face.specs.Face.{isFace, faceOf};
 ghost use Rattle.notes.specs.Notes.{noNotes};
-ghost use Rattle.interior.specs.Interior.{looked};
+ghost use Rattle.interior.specs.Pick.{IsAmbiguousFace};
 ghost use Rattle.tilings.specs.Tilings.{hasCentre};
-ghost use Rattle.tilings.specs.Plan.{settled, tiling};
-ghost use Rattle.tilings.specs.Answers.{chosen, sideOf};
+ghost use Rattle.tilings.specs.Plan.{settled, empty, noTiling, tiling, reach};
+ghost use Rattle.tilings.specs.Answers.{reached, sideOf};
 use cube::Cube;
 use cube::Face;
-use cube::Refusal;
 use cube::bits::three;
 use face::face_answer;
 use interior::AmbiguousFace;
-use interior::Found;
 use interior::Side;
+use interior::Sight;
 use notes::Notes;
 
-// A tiling: its code, row and column, whether it is drawn with the centre, and what was counted.
+// A tiling: its code, row and column, and whether it is drawn with the centre.
 pub struct Tiling {
     pub code: u8,
     pub row: u8,
     pub column: u8,
     pub centre: bool,
-    pub notes: Notes,
 }
 
 // `Untiled` has the configuration and the sub-configuration.
@@ -36,7 +35,12 @@ pub enum Choice {
     Empty,
     Untiled(u8, u8),
     Tiled(Tiling),
-    Refused(Refusal),
+}
+
+// A choice, and what was counted on the way to it.
+pub struct Counted {
+    pub choice: Choice,
+    pub notes: Notes,
 }
 
 pub const TILING_1: u8 = 1;
@@ -127,40 +131,57 @@ pub fn has_centre(code: u8) -> bool
     (CENTRES >> code) % 2 == 1
 }
 
-// A choice of a tiling; the centre goes by the code.
-pub fn tile(code: u8, row: u8, column: u8, notes: Notes) -> Choice
-    ensures { λ r. ⌜ chosen r ≡ tiling code row column (hasCentre code) notes ⌝ }
+// The choice of case 0.
+pub fn nothing() -> Counted
+    ensures { λ r. ⌜ reached r ≡ reach empty noNotes ⌝ }
 {
-    Choice::Tiled(Tiling {
-        code: code,
-        row: row,
-        column: column,
-        centre: has_centre(code),
+    Counted {
+        choice: Choice::Empty,
+        notes: notes::none(),
+    }
+}
+
+// No tiling, for a configuration and a sub-configuration.
+pub fn untiled(c: u8, sub: u8, notes: Notes) -> Counted
+    ensures { λ r. ⌜ reached r ≡ reach (noTiling c sub) notes ⌝ }
+{
+    Counted {
+        choice: Choice::Untiled(c, sub),
         notes: notes,
-    })
+    }
+}
+
+// A choice of a tiling; the centre goes by the code.
+pub fn tile(code: u8, row: u8, column: u8, notes: Notes) -> Counted
+    ensures { λ r. ⌜ reached r ≡ reach (tiling code row column (hasCentre code)) notes ⌝ }
+{
+    Counted {
+        choice: Choice::Tiled(Tiling {
+            code: code,
+            row: row,
+            column: column,
+            centre: has_centre(code),
+        }),
+        notes: notes,
+    }
 }
 
 // A tiling that is chosen with nothing counted, in a table with one tiling a row.
-pub fn plain(code: u8, row: u8) -> Choice
-    ensures { λ r. ⌜ chosen r ≡ tiling code row 0 (hasCentre code) noNotes ⌝ }
+pub fn plain(code: u8, row: u8) -> Counted
+    ensures { λ r. ⌜ reached r ≡ reach (tiling code row 0 (hasCentre code)) noNotes ⌝ }
 {
     tile(code, row, 0, notes::none())
 }
 
 // Where an interior test leads: to a tiling and its row by a yes, to another by a no.
-pub fn settle(found: Found, yes: u8, row: u8, no: u8, other: u8) -> Choice
-    ensures { λ r. ⌜ chosen r ≡ settled (looked found) (tiling yes row 0 (hasCentre yes)) (tiling no other 0 (hasCentre no)) noNotes ⌝ }
+pub fn settle(found: Sight, yes: u8, row: u8, no: u8, other: u8) -> Counted
+    ensures { λ r. ⌜ reached r ≡ settled found (reach (tiling yes row 0 (hasCentre yes))) (reach (tiling no other 0 (hasCentre no))) noNotes ⌝ }
 {
-    match found {
-        Found::Seen(s) => {
-            let notes = s.notes;
-            if s.hit {
-                return tile(yes, row, 0, notes);
-            }
-            tile(no, other, 0, notes)
-        }
-        Found::Refused(why) => Choice::Refused(why),
+    let notes = found.notes;
+    if found.hit {
+        return tile(yes, row, 0, notes);
     }
+    tile(no, other, 0, notes)
 }
 
 // The number s of the TEST tables.
@@ -172,9 +193,11 @@ pub fn side(positive: bool) -> Side
 
 // The face that is ambiguous where a signed face is tested.
 pub fn ambiguous(face: Face) -> AmbiguousFace
-    ensures { λ r. ⌜ r .0 ≡ placeOf (face .0) ⌝ }
+    requires { ⌜ T (isFace (face .0)) ⌝ }
+    ensures face { λ r. ⌜ r .0 ≡ natAbs (face .0) ⌝ }
+    ensures six { λ r. ⌜ IsAmbiguousFace (r .0) ⌝ }
 {
-    AmbiguousFace(face::place(face))
+    AmbiguousFace(face::size(face))
 }
 
 // Three faces asked: 1 for the first, 2 for the second, 4 for the third.

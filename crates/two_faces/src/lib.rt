@@ -5,7 +5,7 @@ ghost use mathlib.Core.Path.{_≡_};
 ghost use Prim.Native.Nat.{_<_};
 ghost use Rattle.notes.specs.Notes.{noNotes};
 ghost use Rattle.tilings.specs.Plan.{run};
-ghost use Rattle.tilings.specs.Answers.{answersOf, chosen};
+ghost use Rattle.tilings.specs.Answers.{answersOf, reached};
 ghost use Rattle.two_faces.specs.Plans.{plan10, plan12};
 use cube::Cube;
 use cube::Face;
@@ -18,9 +18,9 @@ const FIRST_10: [i8; 6] = [2, 5, 1, 1, 5, 2];
 
 const SECOND_10: [i8; 6] = [4, 6, 3, 3, 6, 4];
 
-pub fn case_10(q: Cube, c: u8) -> Choice
+pub fn case_10(q: Cube, c: u8) -> Counted
     requires { ⌜ c < 6 ⌝ }
-    ensures { λ r. ⌜ chosen r ≡ run (answersOf q) (plan10 c) noNotes ⌝ }
+    ensures { λ r. ⌜ reached r ≡ run (answersOf q) (plan10 c) noNotes ⌝ }
 {
     let face = Face(FIRST_10[c as usize]);
     let other = Face(SECOND_10[c as usize]);
@@ -51,9 +51,9 @@ const SECOND_12: [[i8; 8]; 3] = [
     [5, 5, 5, 2, 6, 2, 3, 4],
 ];
 
-pub fn case_12(q: Cube, c: u8) -> Choice
+pub fn case_12(q: Cube, c: u8) -> Counted
     requires { ⌜ c < 24 ⌝ }
-    ensures { λ r. ⌜ chosen r ≡ run (answersOf q) (plan12 c) noNotes ⌝ }
+    ensures { λ r. ⌜ reached r ≡ run (answersOf q) (plan12 c) noNotes ⌝ }
 {
     let i = (c / 8) as usize;
     let k = (c % 8) as usize;

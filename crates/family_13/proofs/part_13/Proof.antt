@@ -1,6 +1,7 @@
 -- `family_13::part_13` follows `part13`.
 use mathlib.Core.Path.{_∙_}
 use borrow.Author.Needs.{needs}
+use Rattle.tilings.proofs.Settling.{nothing-counted}
 use Rattle.family_13.specs.Tables.{«SUB_CONFIG_13»}
 use Rattle.family_13.specs.Plans.{tile13, parts13, lastFrom, part13}
 use Rattle.family_13.proofs.Runs.{no-tiling, some-tiling}
@@ -22,12 +23,20 @@ index-1-code c = search needs
 index-2-code : tie.Need-index-2-code
 index-2-code c = search needs
 
-cast-t33 : tie.Need-cast-t33
-cast-t33 c = search needs
+cast-untiled : tie.Need-cast-untiled
+cast-untiled c = search needs
+
+none-requires : tie.Need-none-requires
+none-requires c κs = search needs
+
+untiled-requires : tie.Need-untiled-requires
+untiled-requires c κs = search needs
 
 returns : tie.Need-returns
 unfolding part13 parts13 lastFrom tile13 «SUB_CONFIG_13»
-returns c = no-tiling _ _ _ (c .before .before .pre .1) (c .if1 .taken)
+returns c =
+    let c0 = c .before .before in
+    c .untiled .ensures ∙ nothing-counted _ _ (c .before .none .ensures) ∙ no-tiling _ _ _ (c0 .before .before .pre .1) (c0 .if1 .taken)
 
 cast-tile-13 : tie.Need-cast-tile-13
 cast-tile-13 c = search needs
@@ -60,7 +69,9 @@ part-13-spec =
     mul-code
     index-1-code
     index-2-code
-    cast-t33
+    cast-untiled
+    none-requires
+    untiled-requires
     returns
     cast-tile-13
     cast-tile-13-2

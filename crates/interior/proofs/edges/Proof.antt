@@ -1,7 +1,8 @@
 -- `interior::edges` is `edgesOf`.
 use mathlib.Core.Path.{ap, sym}
+use Rattle.cube.proofs.Table.{past-all}
 use Rattle.interior.specs.Diagonals.{edgesOf}
-use Rattle.interior.proofs.Picks.{no-edges}
+use Rattle.interior.proofs.Picks.{last-edges}
 use Rattle.interior.proofs.edges.Statement.{statement}
 use Rattle.interior.proofs.edges.Tie as tie
 
@@ -26,13 +27,9 @@ unfolding edgesOf
 returns-5 c = ap edgesOf (sym (c .match .keys5))
 
 returns-6 : tie.Need-returns-6
-unfolding edgesOf
-returns-6 c = ap edgesOf (sym (c .match .keys6))
-
-returns-7 : tie.Need-returns-7
-returns-7 c =
-    let r = c .match .rest in
-    no-edges _ (r .0 .0 .0 .0 .0 .1) (r .0 .0 .0 .0 .1) (r .0 .0 .0 .1) (r .0 .0 .1) (r .0 .1) (r .1)
+returns-6 c =
+    let p = c .before .pre in
+    last-edges _ (p .1) (past-all 1 5 _ (p .0) (c .match .rest))
 
 pub edges-spec : {M : Type 1} → statement M
-edges-spec = tie.close (tie.spec returns returns-2 returns-3 returns-4 returns-5 returns-6 returns-7)
+edges-spec = tie.close (tie.spec returns returns-2 returns-3 returns-4 returns-5 returns-6)

@@ -1,11 +1,11 @@
--- `interior::look` is `lookBy` what is picked.
+-- `interior::look` is `seenAs` what is read.
+use mathlib.Core.Path.{_∙_, ap}
 use borrow.Author.Needs.{needs}
-use Rattle.interior.proofs.Sights.{seen-at-edge, none-picked}
+use Rattle.binary32.specs.Numbers.{f32}
+use Rattle.edge.specs.Edge.{quotients}
+use Rattle.interior.specs.Interior.{seenAs}
 use Rattle.interior.proofs.look.Statement.{statement}
 use Rattle.interior.proofs.look.Tie as tie
-
-enum-told : tie.Need-enum-told
-enum-told c = search needs
 
 read-requires : tie.Need-read-requires
 read-requires c κs = search needs
@@ -13,15 +13,8 @@ read-requires c κs = search needs
 sight-of-requires : tie.Need-sight-of-requires
 sight-of-requires c κs = search needs
 
-enum-known-p : tie.Need-enum-known-p
-enum-known-p c = search needs
-
 returns : tie.Need-returns
-returns c = search seen-at-edge
-
-returns-2 : tie.Need-returns-2
-returns-2 c = search none-picked
+returns c = c .sight-of .ensures ∙ ap (seenAs f32 quotients) (c .before .read .ensures)
 
 pub look-spec : {M : Type 1} → statement M
-look-spec =
-    tie.close (tie.spec enum-told read-requires sight-of-requires enum-known-p returns returns-2)
+look-spec = tie.close (tie.spec read-requires sight-of-requires returns)

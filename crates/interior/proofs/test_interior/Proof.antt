@@ -1,6 +1,6 @@
 -- `interior::test_interior` is `insideOf` one face.
 use borrow.Author.Needs.{needs}
-use Rattle.interior.proofs.Insides.{found-at, one-face}
+use Rattle.interior.proofs.Insides.{seen-at, one-face}
 use Rattle.interior.proofs.test_interior.Statement.{statement}
 use Rattle.interior.proofs.test_interior.Tie as tie
 
@@ -13,14 +13,14 @@ diagonals-of-requires c κs = search needs
 interior-ambiguity-requires : tie.Need-interior-ambiguity-requires
 interior-ambiguity-requires c κs = search needs
 
-moves-at-requires : tie.Need-moves-at-requires
-moves-at-requires c κs = search needs
+moves-of-requires : tie.Need-moves-of-requires
+moves-of-requires c κs = search needs
 
 look-requires : tie.Need-look-requires
 look-requires c κs = search needs
 
 returns : tie.Need-returns
-returns c = search (one-face, found-at)
+returns c = search (one-face, seen-at)
 
 pub test-interior-spec : {M : Type 1} → statement M
 test-interior-spec =
@@ -29,6 +29,6 @@ test-interior-spec =
     values-requires
     diagonals-of-requires
     interior-ambiguity-requires
-    moves-at-requires
+    moves-of-requires
     look-requires
     returns)

@@ -1,6 +1,6 @@
 -- `interior::test_interior_three` is `insideOf` faces 1, 2 and 5.
 use borrow.Author.Needs.{needs}
-use Rattle.interior.proofs.Insides.{found-at, room-for-two, room-for-three, three-faces}
+use Rattle.interior.proofs.Insides.{seen-at, room-for-two, room-for-three, three-faces}
 use Rattle.interior.proofs.test_interior_three.Statement.{statement}
 use Rattle.interior.proofs.test_interior_three.Tie as tie
 
@@ -19,14 +19,14 @@ interior-ambiguity-requires-2 c κs = search needs
 interior-ambiguity-requires-3 : tie.Need-interior-ambiguity-requires-3
 interior-ambiguity-requires-3 c κs = search needs
 
-moves-at-requires : tie.Need-moves-at-requires
-moves-at-requires c κs = search needs
+moves-of-requires : tie.Need-moves-of-requires
+moves-of-requires c κs = search needs
 
 look-requires : tie.Need-look-requires
 look-requires c κs = search needs
 
-moves-at-requires-2 : tie.Need-moves-at-requires-2
-moves-at-requires-2 c κs = search needs
+moves-of-requires-2 : tie.Need-moves-of-requires-2
+moves-of-requires-2 c κs = search needs
 
 look-requires-2 : tie.Need-look-requires-2
 look-requires-2 c κs = search needs
@@ -34,8 +34,8 @@ look-requires-2 c κs = search needs
 join-requires : tie.Need-join-requires
 join-requires c κs = search room-for-two
 
-moves-at-requires-3 : tie.Need-moves-at-requires-3
-moves-at-requires-3 c κs = search needs
+moves-of-requires-3 : tie.Need-moves-of-requires-3
+moves-of-requires-3 c κs = search needs
 
 look-requires-3 : tie.Need-look-requires-3
 look-requires-3 c κs = search needs
@@ -48,9 +48,9 @@ returns c =
     let c1 = c .before .before .before .before in
     let c2 = c1 .before .before .before .before in
     let c3 = c2 .before .before .before in
-    let one = found-at _ _ 1 _ _ _ (c3 .before .before .interior-ambiguity .ensures) (c .before .before .moves-at3 .ensures) (c .before .look3 .ensures) in
-    let two = found-at _ _ 2 _ _ _ (c3 .before .interior-ambiguity2 .ensures) (c2 .before .moves-at .ensures) (c2 .look .ensures) in
-    let five = found-at _ _ 5 _ _ _ (c3 .interior-ambiguity3 .ensures) (c1 .before .before .moves-at2 .ensures) (c1 .before .look2 .ensures) in
+    let one = seen-at _ _ 1 _ _ _ (c3 .before .before .interior-ambiguity .ensures .0) (c .before .before .moves-of3 .ensures) (c .before .look3 .ensures) in
+    let two = seen-at _ _ 2 _ _ _ (c3 .before .interior-ambiguity2 .ensures .0) (c2 .before .moves-of .ensures) (c2 .look .ensures) in
+    let five = seen-at _ _ 5 _ _ _ (c3 .interior-ambiguity3 .ensures .0) (c1 .before .before .moves-of2 .ensures) (c1 .before .look2 .ensures) in
     let c4 = c3 .before .before .before in
     three-faces _ _ _ _ (c4 .before .values .ensures) (c4 .diagonals-of .ensures) 1 2 5 _ _ _ _ _ one two five (c1 .join .ensures) (c .join2 .ensures)
 
@@ -63,12 +63,12 @@ test-interior-three-spec =
     interior-ambiguity-requires
     interior-ambiguity-requires-2
     interior-ambiguity-requires-3
-    moves-at-requires
+    moves-of-requires
     look-requires
-    moves-at-requires-2
+    moves-of-requires-2
     look-requires-2
     join-requires
-    moves-at-requires-3
+    moves-of-requires-3
     look-requires-3
     join-requires-2
     returns)

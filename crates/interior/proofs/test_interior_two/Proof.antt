@@ -1,6 +1,6 @@
 -- `interior::test_interior_two` is `insideOf` two faces.
 use borrow.Author.Needs.{needs}
-use Rattle.interior.proofs.Insides.{found-at, room-for-two, two-faces}
+use Rattle.interior.proofs.Insides.{seen-at, room-for-two, two-faces}
 use Rattle.interior.proofs.test_interior_two.Statement.{statement}
 use Rattle.interior.proofs.test_interior_two.Tie as tie
 
@@ -16,14 +16,14 @@ interior-ambiguity-requires c κs = search needs
 interior-ambiguity-requires-2 : tie.Need-interior-ambiguity-requires-2
 interior-ambiguity-requires-2 c κs = search needs
 
-moves-at-requires : tie.Need-moves-at-requires
-moves-at-requires c κs = search needs
+moves-of-requires : tie.Need-moves-of-requires
+moves-of-requires c κs = search needs
 
 look-requires : tie.Need-look-requires
 look-requires c κs = search needs
 
-moves-at-requires-2 : tie.Need-moves-at-requires-2
-moves-at-requires-2 c κs = search needs
+moves-of-requires-2 : tie.Need-moves-of-requires-2
+moves-of-requires-2 c κs = search needs
 
 look-requires-2 : tie.Need-look-requires-2
 look-requires-2 c κs = search needs
@@ -32,7 +32,7 @@ join-requires : tie.Need-join-requires
 join-requires c κs = search room-for-two
 
 returns : tie.Need-returns
-returns c = search (two-faces, found-at)
+returns c = search (two-faces, seen-at)
 
 pub test-interior-two-spec : {M : Type 1} → statement M
 test-interior-two-spec =
@@ -42,9 +42,9 @@ test-interior-two-spec =
     diagonals-of-requires
     interior-ambiguity-requires
     interior-ambiguity-requires-2
-    moves-at-requires
+    moves-of-requires
     look-requires
-    moves-at-requires-2
+    moves-of-requires-2
     look-requires-2
     join-requires
     returns)

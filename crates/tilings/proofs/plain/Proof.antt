@@ -12,7 +12,7 @@ tile-requires : tie.Need-tile-requires
 tile-requires c κs = search needs
 
 returns : tie.Need-returns
-returns c = c .tile .ensures ∙ nothing-counted _ _ _ _ _ (c .before .none .ensures)
+returns c = c .tile .ensures ∙ nothing-counted _ _ (c .before .none .ensures)
 
 pub plain-spec : {M : Type 1} → statement M
 plain-spec = tie.close (tie.spec none-requires tile-requires returns)

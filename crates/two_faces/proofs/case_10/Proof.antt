@@ -1,7 +1,7 @@
 -- `two_faces::case_10` follows `plan10`.
 use borrow.Author.Needs.{needs}
 use Rattle.two_faces.specs.Tables.{«TEST_10»}
-use Rattle.two_faces.proofs.Runs.{ten}
+use Rattle.two_faces.proofs.Runs.{is-face-10, ten}
 use Rattle.two_faces.proofs.TwoFaces.{one-face, by-first, by-second, by-both, by-none}
 use Rattle.two_faces.proofs.case_10.Statement.{statement}
 use Rattle.two_faces.proofs.case_10.Tie as tie
@@ -39,7 +39,8 @@ returns-2 c =
     by-second _ _ _ _ _ _ _ _ _ _ _ _ (ten _ h) _ _ (c0 .before .face-answer .ensures .0) (c0 .face-answer2 .ensures .0) _ (c .before .if2 .taken) (c .plain2 .ensures)
 
 ambiguous-requires : tie.Need-ambiguous-requires
-ambiguous-requires c κs = search needs
+unfolding «TEST_10»
+ambiguous-requires c κs = is-face-10 _ (c .before .before .before .before .before .before .pre)
 
 side-requires : tie.Need-side-requires
 side-requires c κs = search needs
@@ -59,7 +60,7 @@ returns-3 c =
     let c0' = c .before .before .before .before .before in
     let c0 = c0' .before .before in
     let h = c0 .before .before .before .before .pre in
-    by-both _ _ _ _ _ _ _ _ _ _ _ _ (ten _ h) _ _ (c0 .before .face-answer .ensures .0) (c0 .face-answer2 .ensures .0) _ (c0' .before .if1 .left) (c0' .if2 .left) _ (c .before .before .before .side .ensures) _ (one-face _ _ (c .before .before .before .before .ambiguous .ensures)) _ (c .before .before .test-interior .ensures) (c .before .if3 .taken) (c .settle .ensures)
+    by-both _ _ _ _ _ _ _ _ _ _ _ _ (ten _ h) _ _ (c0 .before .face-answer .ensures .0) (c0 .face-answer2 .ensures .0) _ (c0' .before .if1 .left) (c0' .if2 .left) _ (c .before .before .before .side .ensures) _ (one-face _ _ (c .before .before .before .before .ambiguous .ensures .0)) _ (c .before .before .test-interior .ensures) (c .before .if3 .taken) (c .settle .ensures)
 
 settle-requires-2 : tie.Need-settle-requires-2
 settle-requires-2 c κs = search needs
@@ -70,7 +71,7 @@ returns-4 c =
     let c0' = c .before .before .before .before .before in
     let c0 = c0' .before .before in
     let h = c0 .before .before .before .before .pre in
-    by-none _ _ _ _ _ _ _ _ _ _ _ _ (ten _ h) _ _ (c0 .before .face-answer .ensures .0) (c0 .face-answer2 .ensures .0) _ (c0' .before .if1 .left) (c0' .if2 .left) _ (c .before .before .before .side .ensures) _ (one-face _ _ (c .before .before .before .before .ambiguous .ensures)) _ (c .before .before .test-interior .ensures) (c .before .if3 .left) (c .settle2 .ensures)
+    by-none _ _ _ _ _ _ _ _ _ _ _ _ (ten _ h) _ _ (c0 .before .face-answer .ensures .0) (c0 .face-answer2 .ensures .0) _ (c0' .before .if1 .left) (c0' .if2 .left) _ (c .before .before .before .side .ensures) _ (one-face _ _ (c .before .before .before .before .ambiguous .ensures .0)) _ (c .before .before .test-interior .ensures) (c .before .if3 .left) (c .settle2 .ensures)
 
 pub case-10-spec : {M : Type 1} → statement M
 case-10-spec =

@@ -1,7 +1,8 @@
 -- `two_faces::case_12` follows `plan12`.
+use native.Mathlib.Omega.{arith}
 use borrow.Author.Needs.{needs}
 use Rattle.two_faces.specs.Tables.{«TEST_12»}
-use Rattle.two_faces.proofs.Runs.{twelve}
+use Rattle.two_faces.proofs.Runs.{is-face-12, twelve}
 use Rattle.two_faces.proofs.TwoFaces.{two-faces, by-first, by-second, by-both, by-none}
 use Rattle.two_faces.proofs.case_12.Statement.{statement}
 use Rattle.two_faces.proofs.case_12.Tie as tie
@@ -57,10 +58,12 @@ returns-2 c =
     by-second _ _ _ _ _ _ _ _ _ _ _ _ (twelve _ h) _ _ (c0 .before .face-answer .ensures .0) (c0 .face-answer2 .ensures .0) _ (c .before .if2 .taken) (c .plain2 .ensures)
 
 ambiguous-requires : tie.Need-ambiguous-requires
-ambiguous-requires c κs = search needs
+unfolding «TEST_12»
+ambiguous-requires c κs = is-face-12 0 _ (omega arith) (c .before .before .before .before .before .before .pre)
 
 ambiguous-requires-2 : tie.Need-ambiguous-requires-2
-ambiguous-requires-2 c κs = search needs
+unfolding «TEST_12»
+ambiguous-requires-2 c κs = is-face-12 1 _ (omega arith) (c .before .before .before .before .before .before .before .pre)
 
 side-requires : tie.Need-side-requires
 side-requires c κs = search needs
@@ -81,7 +84,7 @@ returns-3 c =
     let c0' = c1 .before in
     let c0 = c0' .before .before in
     let h = c0 .before .before .before .before .pre in
-    by-both _ _ _ _ _ _ _ _ _ _ _ _ (twelve _ h) _ _ (c0 .before .face-answer .ensures .0) (c0 .face-answer2 .ensures .0) _ (c0' .before .if1 .left) (c0' .if2 .left) _ (c .before .before .before .side .ensures) _ (two-faces _ _ _ _ (c1 .ambiguous .ensures) (c .before .before .before .before .ambiguous2 .ensures)) _ (c .before .before .test-interior-two .ensures) (c .before .if3 .taken) (c .settle .ensures)
+    by-both _ _ _ _ _ _ _ _ _ _ _ _ (twelve _ h) _ _ (c0 .before .face-answer .ensures .0) (c0 .face-answer2 .ensures .0) _ (c0' .before .if1 .left) (c0' .if2 .left) _ (c .before .before .before .side .ensures) _ (two-faces _ _ _ _ (c1 .ambiguous .ensures .0) (c .before .before .before .before .ambiguous2 .ensures .0)) _ (c .before .before .test-interior-two .ensures) (c .before .if3 .taken) (c .settle .ensures)
 
 settle-requires-2 : tie.Need-settle-requires-2
 settle-requires-2 c κs = search needs
@@ -93,7 +96,7 @@ returns-4 c =
     let c0' = c1 .before in
     let c0 = c0' .before .before in
     let h = c0 .before .before .before .before .pre in
-    by-none _ _ _ _ _ _ _ _ _ _ _ _ (twelve _ h) _ _ (c0 .before .face-answer .ensures .0) (c0 .face-answer2 .ensures .0) _ (c0' .before .if1 .left) (c0' .if2 .left) _ (c .before .before .before .side .ensures) _ (two-faces _ _ _ _ (c1 .ambiguous .ensures) (c .before .before .before .before .ambiguous2 .ensures)) _ (c .before .before .test-interior-two .ensures) (c .before .if3 .left) (c .settle2 .ensures)
+    by-none _ _ _ _ _ _ _ _ _ _ _ _ (twelve _ h) _ _ (c0 .before .face-answer .ensures .0) (c0 .face-answer2 .ensures .0) _ (c0' .before .if1 .left) (c0' .if2 .left) _ (c .before .before .before .side .ensures) _ (two-faces _ _ _ _ (c1 .ambiguous .ensures .0) (c .before .before .before .before .ambiguous2 .ensures .0)) _ (c .before .before .test-interior-two .ensures) (c .before .if3 .left) (c .settle2 .ensures)
 
 pub case-12-spec : {M : Type 1} → statement M
 case-12-spec =

@@ -1,7 +1,7 @@
 -- `families::cases::case_6` follows `plan6`.
 use borrow.Author.Needs.{needs}
 use Rattle.families.specs.Tables.{«TEST_6»}
-use Rattle.families.proofs.Runs.{face-6, six-yes, six-settled}
+use Rattle.families.proofs.Runs.{face-6, is-face-6, six-yes, six-settled}
 use Rattle.families.proofs.cases.case_6.Statement.{statement}
 use Rattle.families.proofs.cases.case_6.Tie as tie
 
@@ -31,7 +31,8 @@ unfolding «TEST_6»
 returns c = six-yes _ _ (c .before .before .before .before .pre) _ (face-6 _ (c .before .before .before .before .pre)) _ (c .before .before .face-answer .ensures .0) _ (c .before .if1 .taken) (c .plain .ensures)
 
 ambiguous-requires : tie.Need-ambiguous-requires
-ambiguous-requires c κs = search needs
+unfolding «TEST_6»
+ambiguous-requires c κs = is-face-6 _ (c .before .before .before .pre)
 
 side-requires : tie.Need-side-requires
 side-requires c κs = search needs
@@ -47,7 +48,7 @@ unfolding «TEST_6»
 returns-2 c =
     let c0 = c .before .before .before .before in
     let h = c0 .before .before .before .pre in
-    six-settled _ _ h _ (face-6 _ h) _ (c0 .before .face-answer .ensures .0) _ (c0 .if1 .left) _ (c .before .before .before .ambiguous .ensures) _ (c .before .before .side .ensures) _ (c .before .test-interior .ensures) (c .settle .ensures)
+    six-settled _ _ h _ (face-6 _ h) _ (c0 .before .face-answer .ensures .0) _ (c0 .if1 .left) _ (c .before .before .before .ambiguous .ensures .0) _ (c .before .before .side .ensures) _ (c .before .test-interior .ensures) (c .settle .ensures)
 
 pub case-6-spec : {M : Type 1} → statement M
 case-6-spec =

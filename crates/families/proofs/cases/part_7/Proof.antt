@@ -33,7 +33,7 @@ tile-requires c κs = search needs
 
 returns-2 : tie.Need-returns-2
 unfolding part7
-returns-2 c = c .tile .ensures ∙ nothing-counted _ _ _ _ _ (c .before .none .ensures) ∙ seven-tabled _ _ _ (c .before .before .before .pre .1) (c .before .before .if1 .left)
+returns-2 c = c .tile .ensures ∙ nothing-counted _ _ (c .before .none .ensures) ∙ seven-tabled _ _ _ (c .before .before .before .pre .1) (c .before .before .if1 .left)
 
 pub part-7-spec : {M : Type 1} → statement M
 part-7-spec =
