@@ -4,8 +4,9 @@ use mathlib.Core.Bool.{Bool, true, false, cond, _&&_}
 use mathlib.Core.List.{List, [], _∷_, _++_}
 use lib.Dec.{eqb, leb}
 use Rattle.cube.specs.Bits.{bitOf}
-use Rattle.tilings.specs.Plan.{Chosen, empty, noTiling, tiling, refused}
-use Rattle.choice.specs.Choice.{choiceOf}
+use Rattle.notes.specs.declared.Notes.{Notes}
+use Rattle.tilings.specs.Plan.{Chosen, empty, noTiling, tiling, Reached}
+use Rattle.choice.specs.Choice.{Said, made, refused, answerOf}
 use Rattle.put.specs.Decimal.{decimal}
 use Rattle.line.specs.Line as Line
 use Rattle.line.specs.Line.{Parsed, given, parseLine}
@@ -48,6 +49,15 @@ same (x ∷ xs) (y ∷ ys) = eqb x y && same xs ys
 unfoldable pub fields : ℕ → ℕ → ℕ → ℕ → ℕ → List ℕ
 fields a b c d e = decimal a ++ (space ++ (decimal b ++ (space ++ (decimal c ++ (space ++ (decimal d ++ (space ++ (decimal e ++ newline))))))))
 
+-- fields of a tiling; empty is five zeros; no tiling is 255, configuration, sub-configuration, 0, 0
+abbrev fieldsBy : Chosen → Notes → List ℕ
+fieldsBy empty m = fields 0 0 0 0 0
+fieldsBy (noTiling c sub) m = fields 255 c sub 0 0
+fieldsBy (tiling code row column centre) m = fields code row column (bitOf centre) (m .unsettled)
+
+unfoldable pub choiceLine : Reached → List ℕ
+choiceLine r = fieldsBy (r .choice) (r .notes)
+
 -- the line for the refusal with this number, at a line of the input; the names line is 1
 unfoldable pub refusedLine : ℕ → ℕ → List ℕ
 refusedLine why number = refusedWord ++ (decimal why ++ (space ++ (decimal number ++ newline)))
@@ -57,15 +67,12 @@ pub data Reply : Type 0 where
   answer : List ℕ → Reply
   refusal : ℕ → Reply
 
--- fields of a tiling; empty is five zeros; no tiling is 255, configuration, sub-configuration, 0, 0
-unfoldable pub choiceReply : Chosen → Reply
-choiceReply empty = answer (fields 0 0 0 0 0)
-choiceReply (noTiling c sub) = answer (fields 255 c sub 0 0)
-choiceReply (tiling code row column centre m) = answer (fields code row column (bitOf centre) (m .unsettled))
+unfoldable pub choiceReply : Said → Reply
+choiceReply (made r) = answer (choiceLine r)
 choiceReply (refused n) = refusal n
 
 unfoldable pub cubeReply : Parsed → Reply
-cubeReply (given case configuration q) = choiceReply (choiceOf case configuration q)
+cubeReply (given case configuration q) = choiceReply (answerOf case configuration q)
 cubeReply (Line.refused n) = refusal n
 
 -- the first line names the fields; there is no line 0

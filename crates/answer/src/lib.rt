@@ -6,13 +6,16 @@ ghost use mathlib.Core.Bool.{true, false};
 ghost use mathlib.Core.List.{[], _∷_, _++_};
 ghost use Prim.Native.Nat.{_+_, _≤_};
 ghost use lib.ListN.{length};
-ghost use Rattle.tilings.specs.Answers.{chosen};
+ghost use Rattle.tilings.specs.Answers.{reached};
+ghost use Rattle.choice.specs.Choice.{said};
 ghost use Rattle.put.specs.Placed.{placed};
 ghost use Rattle.put.specs.Decimal.{decimal};
-ghost use Rattle.answer.specs.Answer.{same, inputNames, fields, refusedLine, choiceReply, replyTo, printed, ends};
+ghost use Rattle.answer.specs.Answer.{same, inputNames, fields, choiceLine, refusedLine, choiceReply, replyTo, printed, ends};
+use choice::Answer;
 use cube::Refusal;
 use line::Line;
 use tilings::Choice;
+use tilings::Counted;
 
 // The place after what was printed, and whether it was a refusal.
 pub struct Printed {
@@ -79,29 +82,39 @@ fn refused(at: usize) -> Printed
     Printed { at: at, over: true }
 }
 
-// A choice at a line of the input.
-pub fn print_choice(choice: Choice, number: u64, out: &mut [u8], at: usize) -> Printed
+// The line of a choice.
+fn put_choice(r: Counted, out: &mut [u8], at: usize) -> usize
+    requires { ⌜ at + 20 ≤ length (now out) ⌝ }
+    ensures place { λ i. ⌜ (i ≡ at + length (choiceLine (reached r))) × (i ≤ at + 20) ⌝ }
+    ensures text { λ _. ⌜ now (out .exit) ≡ placed (now (out .entry)) at (choiceLine (reached r)) ⌝ }
+{
+    let choice = r.choice;
+    match choice {
+        Choice::Empty => put_fields(0, 0, 0, 0, 0, out, at),
+        Choice::Untiled(c, sub) => put_fields(255, c, sub, 0, 0, out, at),
+        Choice::Tiled(t) => put_fields(
+            t.code,
+            t.row,
+            t.column,
+            t.centre as u8,
+            r.notes.unsettled,
+            out,
+            at,
+        ),
+    }
+}
+
+// The answer for a cube at a line of the input.
+pub fn print_choice(answer: Answer, number: u64, out: &mut [u8], at: usize) -> Printed
     requires { ⌜ at + 64 ≤ length (now out) ⌝ }
-    ensures place { λ r. ⌜ r .at ≡ at + length (printed number (choiceReply (chosen choice))) ⌝ }
-    ensures end { λ r. ⌜ r .over ≡ ends (choiceReply (chosen choice)) ⌝ }
-    ensures text { λ _. ⌜ now (out .exit) ≡ placed (now (out .entry)) at (printed number (choiceReply (chosen choice))) ⌝ }
+    ensures place { λ r. ⌜ r .at ≡ at + length (printed number (choiceReply (said answer))) ⌝ }
+    ensures end { λ r. ⌜ r .over ≡ ends (choiceReply (said answer)) ⌝ }
+    ensures text { λ _. ⌜ now (out .exit) ≡ placed (now (out .entry)) at (printed number (choiceReply (said answer))) ⌝ }
     ensures room { λ r. ⌜ (r .at ≤ at + 64) × (r .over ≡ false → r .at ≤ at + 20) ⌝ }
 {
-    match choice {
-        Choice::Empty => answered(put_fields(0, 0, 0, 0, 0, out, at)),
-        Choice::Untiled(c, sub) => answered(put_fields(255, c, sub, 0, 0, out, at)),
-        Choice::Tiled(t) => {
-            answered(put_fields(
-                t.code,
-                t.row,
-                t.column,
-                t.centre as u8,
-                t.notes.unsettled,
-                out,
-                at,
-            ))
-        }
-        Choice::Refused(why) => refused(put_refused(cube::number(why), number, out, at)),
+    match answer {
+        Answer::Chosen(r) => answered(put_choice(r, out, at)),
+        Answer::Refused(why) => refused(put_refused(cube::number(why), number, out, at)),
     }
 }
 

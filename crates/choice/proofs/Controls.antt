@@ -1,5 +1,5 @@
 -- That the definitions say something, by computation: each refusal, at its edges and in document 01's order; each of the 38 tilings; each number of unsettled
--- readings that the ranges allow; what the ranges do not allow. Values are written as bits. Assumes nothing.
+-- readings that the ranges allow; what the ranges do not allow; which inner numbers would leave their tables. Values are written as bits. Assumes nothing.
 use mathlib.Core.Path.{_≡_, refl}
 use mathlib.Core.Bool.{Bool, true, false, cond}
 use mathlib.Core.List.{List, [], _∷_, _++_, map, foldr}
@@ -17,28 +17,37 @@ use Rattle.interior.specs.Pick.{diagonals, lastMatch, pickWith, pickBy}
 use Rattle.interior.specs.Interior.{joined, noteOf, seenAs, lookAt, insideBy, insideOf}
 use Rattle.thirteen.specs.Thirteen.{bothWithin, answerAt, case13By, case13Of}
 use Rattle.tilings.specs.Tilings.{configurations, tilingsOf, columnsOf, hasCentre}
-use Rattle.tilings.specs.Plan.{askInTurn, Chosen, empty, noTiling, tiling, refused, settled, run}
+use Rattle.tilings.specs.Plan as Plan
+use Rattle.tilings.specs.Plan.{Plan, ask, face, inside, inside13, askInTurn, Chosen, empty, noTiling, tiling, reach, settled, run}
 use Rattle.two_faces.specs.Tables.{«TEST_10», «TEST_12»}
 use Rattle.two_faces.specs.Plans.{twoFaces, plan10, plan12}
 use Rattle.family_13.specs.Tables.{«TEST_13», «SUB_CONFIG_13»}
 use Rattle.family_13.specs.Plans.{parts13, lastFrom, tile13, part13, plan13}
 use Rattle.families.specs.Tables.{«TEST_3», «TEST_4», «TEST_6», «TEST_7»}
 use Rattle.families.specs.Plans.{plan3, plan4, plan6, part7, plan7, plans, planOf}
-use Rattle.choice.specs.Choice.{choiceOf}
-use Rattle.choice.specs.Ranges.{readings, holdsMinus1, inRanges}
+use Rattle.choice.specs.Choice.{Said, made, refused, refusalOf, choiceOf, answerOf}
+use Rattle.choice.specs.Inner.{handsOn, isOffset}
+use Rattle.choice.specs.Ranges.{readings, holdsMinus1, placed, inRanges, saidInRanges}
 
 record Test : Type 0 where
   case : ℤ
   configuration : ℤ
   q : Cube
-  says : Chosen
+  says : Said
 
-abbrev test : ℤ → ℤ → Cube → Chosen → Test
+abbrev test : ℤ → ℤ → Cube → Said → Test
 test k c q s = record { case = k; configuration = c; q = q; says = s }
 
+-- a choice with so many unsettled
+abbrev so : Chosen → ℕ → Said
+so x unsettled = made (reach x (record { unsettled = unsettled }))
+
 -- code, row, column, centre and unsettled
+abbrev tile : ℕ → ℕ → ℕ → Bool → ℕ → Said
+tile code row column centre unsettled = so (tiling code row column centre) unsettled
+
 abbrev tiled : ℕ → ℕ → Cube → ℕ → ℕ → ℕ → Bool → ℕ → Test
-tiled k c q code row column centre unsettled = test (pos k) (pos c) q (tiling code row column centre (record { unsettled = unsettled }))
+tiled k c q code row column centre unsettled = test (pos k) (pos c) q (tile code row column centre unsettled)
 
 -- ---- refusals: all ones, but for the value b at corner k
 abbrev with : ℕ → ℕ → Cube
@@ -75,12 +84,12 @@ refusals =
     ∷ test (pos 0) (negsuc 0) spoilt (refused 3)
     ∷ test (pos 1) (pos 0) (with 0xff800001 3) (refused 3)
     -- and no refusal: case 0, and the last finite values
-    ∷ test (pos 0) (negsuc 0) ones empty
+    ∷ test (pos 0) (negsuc 0) ones (so empty 0)
     ∷ tiled 14 11 (cube 0x7f7fffff 0xff7fffff 1 0x80000001 0 0x80000000 0x007fffff 0x00800000) 38 11 0 false 0
     ∷ []
 
-refusals-hold : map (λ t. choiceOf (t .case) (t .configuration) (t .q)) refusals ≡ map (λ t. t .says) refusals
-unfolding refusals choiceOf run planOf plans configurations hasCentre corners allFinite ofBits
+refusals-hold : map (λ t. answerOf (t .case) (t .configuration) (t .q)) refusals ≡ map (λ t. t .says) refusals
+unfolding refusals answerOf refusalOf choiceOf run planOf plans configurations hasCentre corners allFinite ofBits
 refusals-hold = refl
 
 -- a NaN and each infinity, at each corner
@@ -90,8 +99,8 @@ corner-numbers = 0 ∷ 1 ∷ 2 ∷ 3 ∷ 4 ∷ 5 ∷ 6 ∷ 7 ∷ []
 not-finite : List ℕ
 not-finite = 0x7fc00000 ∷ 0x7f800000 ∷ 0xff800000 ∷ []
 
-all-refused : map (λ b. map (λ k. choiceOf (pos 1) (pos 0) (with b k)) corner-numbers) not-finite ≡ map (λ b. map (λ k. refused 3) corner-numbers) not-finite
-unfolding corner-numbers not-finite choiceOf configurations corners allFinite ofBits
+all-refused : map (λ b. map (λ k. answerOf (pos 1) (pos 0) (with b k)) corner-numbers) not-finite ≡ map (λ b. map (λ k. refused 3) corner-numbers) not-finite
+unfolding corner-numbers not-finite answerOf refusalOf configurations corners allFinite ofBits
 all-refused = refl
 
 -- ---- choices, as the Rust makes them
@@ -100,11 +109,11 @@ choices =
     -- document 01's cubes that are not starred, and its third sample line
     tiled 4 0 ones 6 0 0 false 0
     ∷ tiled 12 0 (cube 0x3f800000 0x3f800000 0x3f800000 0xbf800000 0xbf800000 0xbf800000 0xbf800000 0x3f800000) 26 23 0 false 0
-    ∷ test (pos 13) (pos 0) (cube 0x3f800000 0x40000000 0x3f800000 0x40000000 0x3f800000 0x40800000 0x3f800000 0x40800000) (noTiling 0 5)
+    ∷ test (pos 13) (pos 0) (cube 0x3f800000 0x40000000 0x3f800000 0x40000000 0x3f800000 0x40800000 0x3f800000 0x40800000) (so (noTiling 0 5) 0)
     -- docs/DIFFERENCES.md, F8
     ∷ tiled 13 0 (cube 0x40a00000 0xc0400000 0x40000000 0xc0400000 0xc0400000 0x40000000 0xbf800000 0x3f800000) 37 1 0 false 0
     -- no tiling of the other configuration
-    ∷ test (pos 13) (pos 1) (cube 0x40000000 0x3f800000 0x40000000 0x3f800000 0x3f800000 0xc0000000 0xbf800000 0xbf800000) (noTiling 1 21)
+    ∷ test (pos 13) (pos 1) (cube 0x40000000 0x3f800000 0x40000000 0x3f800000 0x3f800000 0xc0000000 0xbf800000 0xbf800000) (so (noTiling 1 21) 0)
     -- tilings 1 to 38
     ∷ tiled 1 6 (cube 0xc0000000 0xc0000000 0xc0000000 0xc0000000 0x3f800000 0xc0000000 0xc0000000 0xc0000000) 1 6 0 false 0
     ∷ tiled 2 6 (cube 0xc0000000 0xc0000000 0xc0000000 0xc0000000 0xc0000000 0xc0000000 0xc0000000 0xc0000000) 2 6 0 false 0
@@ -156,8 +165,8 @@ choices =
     ∷ tiled 12 14 (cube 0xc0000000 0 0xc0000000 0 0x40000000 0xbf800000 0x40000000 0x80000000) 26 9 0 false 2
     ∷ []
 
-choices-hold : map (λ t. choiceOf (t .case) (t .configuration) (t .q)) choices ≡ map (λ t. t .says) choices
-unfolding choices choiceOf run settled askInTurn planOf plans plan3 plan4 plan6 part7 plan7 twoFaces plan10 plan12 parts13 lastFrom tile13 part13 plan13 «TEST_3» «TEST_4» «TEST_6» «TEST_7» «TEST_10» «TEST_12» «TEST_13» «SUB_CONFIG_13» configurations hasCentre faceOf faceBy rule faceCorner faceCorners insideOf insideBy joined lookAt seenAs noteOf pickBy pickWith lastMatch diagonals edgeBy readBy crossBy moveOf moves movesOf case13Of case13By answerAt bothWithin rootOf rootUnits wholeRoot rootWithin cornerOf valueAt corners allFinite ofBits neg add sub mul div lt eq le isNan ofInt
+choices-hold : map (λ t. answerOf (t .case) (t .configuration) (t .q)) choices ≡ map (λ t. t .says) choices
+unfolding choices answerOf refusalOf choiceOf run settled askInTurn planOf plans plan3 plan4 plan6 part7 plan7 twoFaces plan10 plan12 parts13 lastFrom tile13 part13 plan13 «TEST_3» «TEST_4» «TEST_6» «TEST_7» «TEST_10» «TEST_12» «TEST_13» «SUB_CONFIG_13» configurations hasCentre faceOf faceBy rule faceCorner faceCorners insideOf insideBy joined lookAt seenAs noteOf pickBy pickWith lastMatch diagonals edgeBy readBy crossBy moveOf moves movesOf case13Of case13By answerAt bothWithin rootOf rootUnits wholeRoot rootWithin cornerOf valueAt corners allFinite ofBits neg add sub mul div lt eq le isNan ofInt
 choices-hold = refl
 
 -- ---- ranges
@@ -170,13 +179,10 @@ codes-hold = refl
 -- each part of a choice's ranges, just past its bound
 record Past : Type 0 where
   case : ℕ
-  chosen : Chosen
+  says : Said
 
-abbrev past : ℕ → Chosen → Past
-past k s = record { case = k; chosen = s }
-
-abbrev tile : ℕ → ℕ → ℕ → Bool → ℕ → Chosen
-tile code row column centre unsettled = tiling code row column centre (record { unsettled = unsettled })
+abbrev past : ℕ → Said → Past
+past k s = record { case = k; says = s }
 
 pasts : List Past
 pasts =
@@ -191,13 +197,15 @@ pasts =
     ∷ past 4 (tile 6 0 0 true 0)
     ∷ past 7 (tile 13 0 0 false 0)
     ∷ past 0 (tile 38 0 0 false 0)
-    ∷ past 1 empty
-    ∷ past 12 (noTiling 0 5)
-    ∷ past 13 (noTiling 2 5)
+    ∷ past 1 (so empty 0)
+    ∷ past 0 (so empty 1)
+    ∷ past 12 (so (noTiling 0 5) 0)
+    ∷ past 13 (so (noTiling 2 5) 0)
+    ∷ past 13 (so (noTiling 0 5) 1)
     -- SUB_CONFIG_13 holds 3, 45 and nothing
-    ∷ past 13 (noTiling 0 4)
-    ∷ past 13 (noTiling 1 63)
-    ∷ past 13 (noTiling 0 64)
+    ∷ past 13 (so (noTiling 0 4) 0)
+    ∷ past 13 (so (noTiling 1 63) 0)
+    ∷ past 13 (so (noTiling 0 64) 0)
     ∷ past 1 (refused 0)
     ∷ past 1 (refused 4)
     ∷ past 1 (refused 8)
@@ -205,8 +213,8 @@ pasts =
     ∷ past 1 (refused 10)
     ∷ []
 
-pasts-hold : map (λ p. inRanges (p .case) (p .chosen)) pasts ≡ map (λ p. false) pasts
-unfolding pasts inRanges readings holdsMinus1 «SUB_CONFIG_13» configurations tilingsOf columnsOf hasCentre
+pasts-hold : map (λ p. saidInRanges (p .case) (p .says)) pasts ≡ map (λ p. false) pasts
+unfolding pasts saidInRanges inRanges placed readings holdsMinus1 «SUB_CONFIG_13» configurations tilingsOf columnsOf hasCentre
 pasts-hold = refl
 
 -- for each case a tiling of it, and how many edge readings a choice makes at most: so many are unsettled, and no more
@@ -236,10 +244,52 @@ mosts =
     ∷ most 14 38 0
     ∷ []
 
-mosts-hold : map (λ m. inRanges (m .case) (tile (m .code) 0 0 false (m .unsettled))) mosts ≡ map (λ m. true) mosts
-unfolding mosts inRanges readings configurations tilingsOf columnsOf hasCentre
+mosts-hold : map (λ m. saidInRanges (m .case) (tile (m .code) 0 0 false (m .unsettled))) mosts ≡ map (λ m. true) mosts
+unfolding mosts saidInRanges inRanges placed readings configurations tilingsOf columnsOf hasCentre
 mosts-hold = refl
 
-more-out : map (λ m. inRanges (m .case) (tile (m .code) 0 0 false (suc (m .unsettled)))) mosts ≡ map (λ m. false) mosts
-unfolding mosts inRanges readings configurations tilingsOf columnsOf hasCentre
+more-out : map (λ m. saidInRanges (m .case) (tile (m .code) 0 0 false (suc (m .unsettled)))) mosts ≡ map (λ m. false) mosts
+unfolding mosts saidInRanges inRanges placed readings configurations tilingsOf columnsOf hasCentre
 more-out = refl
+
+-- ---- inner numbers: questions that no plan of a case may hand on
+record Wrong : Type 0 where
+  case : ℕ
+  plan : Plan
+
+-- asked first, or after a no, or after a yes
+abbrev first : ℕ → Plan.Question → Wrong
+first k w = record { case = k; plan = ask w Plan.nothing Plan.nothing }
+
+abbrev afterNo : ℕ → Plan.Question → Wrong
+afterNo k w = record { case = k; plan = ask (face (pos 1)) Plan.nothing (ask w Plan.nothing Plan.nothing) }
+
+abbrev afterYes : ℕ → Plan.Question → Wrong
+afterYes k w = record { case = k; plan = ask (face (pos 1)) (ask w Plan.nothing Plan.nothing) Plan.nothing }
+
+wrongs : List Wrong
+wrongs =
+    -- a face 0, 7 and -7
+    first 3 (face (pos 0))
+    ∷ afterNo 10 (face (pos 7))
+    ∷ afterYes 10 (face (negsuc 6))
+    -- the interior test for an ambiguous face 0 and 7
+    ∷ first 4 (inside (0 ∷ 2 ∷ 5 ∷ []) (pos 7))
+    ∷ afterNo 12 (inside (1 ∷ 7 ∷ []) (pos 7))
+    ∷ afterYes 6 (inside (0 ∷ []) (pos 7))
+    -- and for cases 3, 13 and 15, the case-13 test for case 12
+    ∷ first 3 (inside (1 ∷ []) (pos 7))
+    ∷ afterNo 13 (inside (1 ∷ []) (pos 7))
+    ∷ afterYes 15 (inside (1 ∷ []) (pos 7))
+    ∷ first 12 inside13
+    ∷ []
+
+wrongs-hold : map (λ w. handsOn (w .case) (w .plan)) wrongs ≡ map (λ w. false) wrongs
+unfolding wrongs handsOn
+wrongs-hold = refl
+
+-- numbers of SUB_CONFIG_13: -1 and the last column of each table; -2 and one past the last table
+offsets-hold : map isOffset (negsuc 0 ∷ pos 0 ∷ pos 6 ∷ pos 18 ∷ pos 22 ∷ pos 26 ∷ pos 38 ∷ pos 44 ∷ pos 45 ∷ negsuc 1 ∷ pos 46 ∷ [])
+    ≡ true ∷ true ∷ true ∷ true ∷ true ∷ true ∷ true ∷ true ∷ true ∷ false ∷ false ∷ []
+unfolding isOffset parts13 lastFrom columnsOf
+offsets-hold = refl

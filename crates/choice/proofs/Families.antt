@@ -1,4 +1,4 @@
--- The family of a case and a configuration, by the two taken apart, and by it what is chosen. `toZ w8 (ofZ w8 z)` is how code reads z. Assumes nothing.
+-- The family of a case and a configuration, by the two taken apart, and by it what is refused and what is answered. `toZ w8 (ofZ w8 z)` is how code reads z. Assumes nothing.
 use mathlib.Core.Path.{_≡_, refl, sym, ap, _∙_, subst}
 use mathlib.Core.Bool.{Bool, true, false, cond, _&&_}
 use Prim.Native.Nat.{ℕ, zero, suc, _≤_, _<_}
@@ -23,14 +23,15 @@ use Rattle.cube.specs.Refusals.{refusalNumber}
 use Rattle.notes.specs.Notes.{noNotes}
 use Rattle.tilings.specs.Tilings.{configurations}
 use Rattle.tilings.specs.Plan as Plan
-use Rattle.tilings.specs.Plan.{Chosen, empty, run}
+use Rattle.tilings.specs.Plan.{empty, Reached, reach, run}
 use Rattle.tilings.specs.Answers.{answersOf}
 use Rattle.families.specs.Plans.{plans, planOf}
-use Rattle.choice.specs.Choice.{isCase, natOf, choiceOf, refusalOf}
+use Rattle.choice.specs.Choice as Choice
+use Rattle.choice.specs.Choice.{isCase, natOf, refusalOf, choiceOf, Said, made, answerOf}
 use Rattle.choice.specs.declared.Family.{Family}
 use Rattle.choice.specs.declared.Family.the-variants.{Nothing, Known, Refused}
 use Rattle.choice.specs.Kin.{Kin, nothing, known, refused, kinOf, kin}
-use Rattle.choice.proofs.Ranges.{never-refused}
+use Rattle.choice.proofs.Ranges.{tests}
 
 -- past case 14 there are no configurations, nor from 0 for case 0
 pub no-more : (k : ℕ) → NoneFrom 1 14 k → 0 ≡ getD configurations k 0
@@ -90,39 +91,51 @@ unfolding kinOf
 its-own x (pos c) = its-or-refused (isCase x) (ltb c (getD configurations (natOf x) 0)) (known (natOf x) c) (λ h. h)
 its-own x (negsuc c) = its-or-refused (isCase x) (eqb (natOf x) 0 && eqb c 0) nothing (λ h. tt)
 
--- ---- what is chosen for a family
-abbrev ifFinite : Bool → Chosen → Chosen
-ifFinite b r = cond b r (Plan.refused 3)
-
--- the number of its refusal, where that is by the corners alone
+-- ---- what is refused for a family
+-- by the corners alone
 abbrev ifNot : Bool → ℕ
 ifNot b = cond b 0 3
 
-corners-alone : (b : Bool) (s : Chosen) → refusalOf s ≡ 0 → refusalOf (ifFinite b s) ≡ ifNot b
-unfolding refusalOf
-corners-alone true s h = h
-corners-alone false s h = refl
+abbrev refusalBy : Bool → Kin → ℕ
+refusalBy b nothing = ifNot b
+refusalBy b (known k c) = ifNot b
+refusalBy b (refused n) = n
 
-abbrev choiceBy : Cube → Kin → Chosen
-choiceBy q nothing = ifFinite (allFinite q) empty
-choiceBy q (known k c) = ifFinite (allFinite q) (run (answersOf q) (planOf k c) noNotes)
-choiceBy q (refused n) = Plan.refused n
+tested : (a b d : Bool) (m : Kin) → refusalBy d m ≡ ifNot d → tests a b d ≡ refusalBy d (cond a (cond b m (refused 2)) (refused 1))
+tested true true d m h = sym h
+tested true false d m h = refl
+tested false b d m h = refl
 
-chosen-or-refused : (q : Cube) (a b : Bool) (m : Kin) (r : Chosen) → (T b → r ≡ choiceBy q m)
-    → cond a (cond b r (Plan.refused 2)) (Plan.refused 1) ≡ choiceBy q (cond a (cond b m (refused 2)) (refused 1))
-chosen-or-refused q true true m r f = f tt
-chosen-or-refused q true false m r f = refl
-chosen-or-refused q false b m r f = refl
+refusal-by : (x y : ℤ) (q : Cube) → refusalOf x y q ≡ refusalBy (allFinite q) (kinOf x y)
+unfolding refusalOf kinOf
+refusal-by x (pos c) q = tested (isCase x) (ltb c (getD configurations (natOf x) 0)) (allFinite q) (known (natOf x) c) refl
+refusal-by x (negsuc c) q = tested (isCase x) (eqb (natOf x) 0 && eqb c 0) (allFinite q) nothing refl
+
+-- ---- what is answered
+abbrev ifFinite : Bool → Reached → Said
+ifFinite b r = cond b (made r) (Choice.refused 3)
+
+abbrev answerBy : Cube → Kin → Said
+answerBy q nothing = ifFinite (allFinite q) (reach empty noNotes)
+answerBy q (known k c) = ifFinite (allFinite q) (run (answersOf q) (planOf k c) noNotes)
+answerBy q (refused n) = Choice.refused n
+
+answered : (q : Cube) (a b d : Bool) (m : Kin) (r : Reached) → (T b → ifFinite d r ≡ answerBy q m)
+    → cond (eqb (tests a b d) 0) (made r) (Choice.refused (tests a b d)) ≡ answerBy q (cond a (cond b m (refused 2)) (refused 1))
+answered q true true true m r f = f tt
+answered q true true false m r f = f tt
+answered q true false d m r f = refl
+answered q false b d m r f = refl
 
 pub no-plan : (k : ℕ) → T (eqb k 0) → planOf k 0 ≡ Plan.nothing
 unfolding planOf plans
 no-plan k h = rw (eqb→eq k 0 h)
 
-choice-by : (x y : ℤ) (q : Cube) → choiceOf x y q ≡ choiceBy q (kinOf x y)
-unfolding choiceOf kinOf run
-choice-by x (pos c) q = chosen-or-refused q (isCase x) (ltb c (getD configurations (natOf x) 0)) (known (natOf x) c) _ (λ h. refl)
-choice-by x (negsuc c) q =
-    chosen-or-refused q (isCase x) (eqb (natOf x) 0 && eqb c 0) nothing _
+answer-by : (x y : ℤ) (q : Cube) → answerOf x y q ≡ answerBy q (kinOf x y)
+unfolding answerOf refusalOf choiceOf kinOf run
+answer-by x (pos c) q = answered q (isCase x) (ltb c (getD configurations (natOf x) 0)) (allFinite q) (known (natOf x) c) _ (λ h. refl)
+answer-by x (negsuc c) q =
+    answered q (isCase x) (eqb (natOf x) 0 && eqb c 0) (allFinite q) nothing _
     (λ h. rw (no-plan (natOf x) (and-l (eqb (natOf x) 0) (eqb c 0) h)))
 
 module _ (x y : ℤ) (f : Family) (fx : SFits w8 x) (fy : SFits w8 y) (e : kin f ≡ kinOf (toZ w8 (ofZ w8 x)) (toZ w8 (ofZ w8 y))) where
@@ -133,42 +146,40 @@ module _ (x y : ℤ) (f : Family) (fx : SFits w8 x) (fy : SFits w8 y) (e : kin f
   one-of-its k c s = ltb→lt c (getD configurations k 0) (subst (λ (m : Kin). T (its m)) (of (Known k c) s) (its-own x y))
 
   module _ (q : Cube) where
-    by-family : (v : Family) → f ≡ v → choiceBy q (kin v) ≡ choiceOf x y q
-    by-family v s = sym (choice-by x y q ∙ ap (choiceBy q) (of v s))
+    by-family : (v : Family) → f ≡ v → answerBy q (kin v) ≡ answerOf x y q
+    by-family v s = sym (answer-by x y q ∙ ap (answerBy q) (of v s))
 
-    pub by-refusal : (why : Refusal) → f ≡ Refused why → Plan.refused (refusalNumber why) ≡ choiceOf x y q
+    pub by-refusal : (why : Refusal) → f ≡ Refused why → Choice.refused (refusalNumber why) ≡ answerOf x y q
     by-refusal why s = by-family (Refused why) s
 
     -- b is what the code has found of the corners
     module _ (b : Bool) (finite : b ≡ allFinite q) where
-      found : (a : Bool) (r : Chosen) → b ≡ a → ifFinite a r ≡ ifFinite (allFinite q) r
+      found : (a : Bool) (r : Reached) → b ≡ a → ifFinite a r ≡ ifFinite (allFinite q) r
       found a r h = ap (λ (d : Bool). ifFinite d r) (sym h ∙ finite)
 
-      pub by-nothing : f ≡ Nothing → b ≡ true → empty ≡ choiceOf x y q
-      by-nothing s h = found true empty h ∙ by-family Nothing s
+      pub by-nothing : f ≡ Nothing → b ≡ true → (r : Reached) → r ≡ reach empty noNotes → made r ≡ answerOf x y q
+      by-nothing s h r i = ap made i ∙ found true (reach empty noNotes) h ∙ by-family Nothing s
 
-      pub by-nothing-refused : f ≡ Nothing → b ≡ false → Plan.refused 3 ≡ choiceOf x y q
-      by-nothing-refused s h = found false empty h ∙ by-family Nothing s
+      pub by-nothing-refused : f ≡ Nothing → b ≡ false → Choice.refused 3 ≡ answerOf x y q
+      by-nothing-refused s h = found false (reach empty noNotes) h ∙ by-family Nothing s
 
       module _ (k c : ℕ) (s : f ≡ Known k c) where
-        pub by-plan : b ≡ true → (r : Chosen) → r ≡ run (answersOf q) (planOf k c) noNotes → r ≡ choiceOf x y q
-        by-plan h r i = i ∙ found true (run (answersOf q) (planOf k c) noNotes) h ∙ by-family (Known k c) s
+        pub by-plan : b ≡ true → (r : Reached) → r ≡ run (answersOf q) (planOf k c) noNotes → made r ≡ answerOf x y q
+        by-plan h r i = ap made i ∙ found true (run (answersOf q) (planOf k c) noNotes) h ∙ by-family (Known k c) s
 
-        pub by-plan-refused : b ≡ false → Plan.refused 3 ≡ choiceOf x y q
+        pub by-plan-refused : b ≡ false → Choice.refused 3 ≡ answerOf x y q
         by-plan-refused h = found false (run (answersOf q) (planOf k c) noNotes) h ∙ by-family (Known k c) s
 
     -- ---- and by its number, if it is refused
-    pub number-told : (why : Refusal) → f ≡ Refused why → (n : ℕ) → n ≡ refusalNumber why → n ≡ refusalOf (choiceOf x y q)
-    unfolding refusalOf
-    number-told why s n i = i ∙ ap refusalOf (by-refusal why s)
+    told : (v : Family) → f ≡ v → refusalBy (allFinite q) (kin v) ≡ refusalOf x y q
+    told v s = sym (refusal-by x y q ∙ ap (refusalBy (allFinite q)) (of v s))
+
+    pub number-told : (why : Refusal) → f ≡ Refused why → (n : ℕ) → n ≡ refusalNumber why → n ≡ refusalOf x y q
+    number-told why s n i = i ∙ told (Refused why) s
 
     module _ (b : Bool) (finite : b ≡ allFinite q) (n : ℕ) (i : n ≡ ifNot b) where
-      by-corners : (s : Chosen) → refusalOf s ≡ 0 → n ≡ refusalOf (ifFinite (allFinite q) s)
-      by-corners s h = i ∙ ap ifNot finite ∙ sym (corners-alone (allFinite q) s h)
+      pub nothing-told : f ≡ Nothing → n ≡ refusalOf x y q
+      nothing-told s = i ∙ ap ifNot finite ∙ told Nothing s
 
-      pub nothing-told : f ≡ Nothing → n ≡ refusalOf (choiceOf x y q)
-      unfolding refusalOf
-      nothing-told s = by-corners empty refl ∙ ap refusalOf (by-family Nothing s)
-
-      pub known-told : (k c : ℕ) → f ≡ Known k c → n ≡ refusalOf (choiceOf x y q)
-      known-told k c s = by-corners (run (answersOf q) (planOf k c) noNotes) (never-refused k c q (one-of-its k c s)) ∙ ap refusalOf (by-family (Known k c) s)
+      pub known-told : (k c : ℕ) → f ≡ Known k c → n ≡ refusalOf x y q
+      known-told k c s = i ∙ ap ifNot finite ∙ told (Known k c) s

@@ -1,6 +1,6 @@
 mod Controls
 mod Families
+mod Inner
 pub mod Ranges
-mod Refusals
 mod Starred
 mod Tested

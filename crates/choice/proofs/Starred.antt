@@ -14,9 +14,9 @@ use Rattle.family_13.specs.Tables.{«TEST_13», «SUB_CONFIG_13»}
 use Rattle.family_13.specs.Plans.{parts13, lastFrom, tile13, part13, plan13}
 use Rattle.families.specs.Tables.{«TEST_3», «TEST_4», «TEST_7»}
 use Rattle.families.specs.Plans.{plan3, plan4, part7, plan7, plans, planOf}
-use Rattle.choice.specs.Choice.{choiceOf}
+use Rattle.choice.specs.Choice.{refusalOf, choiceOf, answerOf}
 use Rattle.choice.specs.Starred.{stars, StarredCubes}
 
 pub starred : StarredCubes
-unfolding stars choiceOf run settled askInTurn planOf plans plan3 plan4 part7 plan7 twoFaces plan10 parts13 lastFrom tile13 part13 plan13 «TEST_3» «TEST_4» «TEST_7» «TEST_10» «TEST_13» «SUB_CONFIG_13» configurations hasCentre faceOf faceBy rule faceCorner faceCorners insideOf insideBy joined lookAt seenAs noteOf pickBy pickWith lastMatch diagonals edgeBy readBy crossBy moveOf moves cornerOf valueAt corners allFinite ofBits neg add sub mul div lt eq le isNan ofInt
+unfolding stars answerOf refusalOf choiceOf run settled askInTurn planOf plans plan3 plan4 part7 plan7 twoFaces plan10 parts13 lastFrom tile13 part13 plan13 «TEST_3» «TEST_4» «TEST_7» «TEST_10» «TEST_13» «SUB_CONFIG_13» configurations hasCentre faceOf faceBy rule faceCorner faceCorners insideOf insideBy joined lookAt seenAs noteOf pickBy pickWith lastMatch diagonals edgeBy readBy crossBy moveOf moves cornerOf valueAt corners allFinite ofBits neg add sub mul div lt eq le isNan ofInt
 starred = refl

@@ -1,4 +1,4 @@
--- Document 01, 'A choice' and 'What is refused': the choice for any case, configuration and cube. Definitions only.
+-- Document 01, 'A choice' and 'What is refused': the refusal and the choice for any case, configuration and cube, side by side. Definitions only.
 use Prim.Native.Nat.{ℕ}
 use mathlib.Core.Bool.{Bool, false, cond, _&&_}
 use lib.IntN.{ℤ, pos, negsuc}
@@ -6,11 +6,14 @@ use lib.Dec.{leb, ltb, eqb}
 use lib.ListN.{getD}
 use Rattle.cube.specs.declared.Cube.{Cube}
 use Rattle.cube.specs.Corners.{allFinite}
+use Rattle.cube.specs.Refusals.{refusalNumber}
 use Rattle.notes.specs.Notes.{noNotes}
 use Rattle.tilings.specs.Tilings.{configurations}
-use Rattle.tilings.specs.Plan.{Chosen, empty, noTiling, tiling, refused, run}
-use Rattle.tilings.specs.Answers.{answersOf}
+use Rattle.tilings.specs.Plan.{Reached, run}
+use Rattle.tilings.specs.Answers.{answersOf, reached}
 use Rattle.families.specs.Plans.{planOf}
+use Rattle.choice.specs.declared.Answer.{Answer}
+use Rattle.choice.specs.declared.Answer.the-variants.{Chosen, Refused}
 
 -- 0 to 14
 abbrev pub isCase : ℤ → Bool
@@ -27,25 +30,25 @@ abbrev pub natOf : ℤ → ℕ
 natOf (pos k) = k
 natOf (negsuc k) = 0
 
--- refusals 1, 2 and 3 in this order, and 9 where an interior test gives it
-unfoldable pub choiceOf : ℤ → ℤ → Cube → Chosen
-choiceOf case configuration q =
-    cond (isCase case)
-    (cond (isConfiguration (natOf case) configuration)
-    (cond (allFinite q) (run (answersOf q) (planOf (natOf case) (natOf configuration)) noNotes) (refused 3))
-    (refused 2))
-    (refused 1)
+-- refusals 1, 2 and 3 in this order; 0 where there is none
+unfoldable pub refusalOf : ℤ → ℤ → Cube → ℕ
+refusalOf case configuration q = cond (isCase case) (cond (isConfiguration (natOf case) configuration) (cond (allFinite q) 0 3) 2) 1
 
--- the number of a choice's refusal, 0 where it is made
-unfoldable pub refusalOf : Chosen → ℕ
-refusalOf empty = 0
-refusalOf (noTiling c sub) = 0
-refusalOf (tiling code row column centre m) = 0
-refusalOf (refused n) = n
+-- the choice, where none of them is given
+unfoldable pub choiceOf : ℤ → ℤ → Cube → Reached
+choiceOf case configuration q = run (answersOf q) (planOf (natOf case) (natOf configuration)) noNotes
 
--- how many readings a choice left unsettled, 0 where there is no tiling
-unfoldable pub unsettledIn : Chosen → ℕ
-unsettledIn empty = 0
-unsettledIn (noTiling c sub) = 0
-unsettledIn (tiling code row column centre m) = m .unsettled
-unsettledIn (refused n) = 0
+-- what is answered: the choice, or the number of a refusal
+pub data Said : Type 0 where
+  made : Reached → Said
+  refused : ℕ → Said
+
+unfoldable pub answerOf : ℤ → ℤ → Cube → Said
+answerOf case configuration q =
+    let n = refusalOf case configuration q in
+    cond (eqb n 0) (made (choiceOf case configuration q)) (refused n)
+
+-- the answers of the code by document 01's numbers
+abbrev pub said : Answer → Said
+said (Chosen r) = made (reached r)
+said (Refused why) = refused (refusalNumber why)

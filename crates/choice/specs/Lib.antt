@@ -1,4 +1,5 @@
 pub mod Choice
+pub mod Inner
 pub mod Kin
 pub mod Ranges
 pub mod Starred

@@ -6,8 +6,9 @@ use lib.IntN.{ℤ, pos, negsuc}
 use lib.Dec.{eqb, ltb, leb}
 use lib.ListN.{getD}
 use Rattle.tilings.specs.Tilings.{configurations, tilingsOf, isOneOf, columnsOf, hasCentre}
-use Rattle.tilings.specs.Plan.{Chosen, empty, noTiling, tiling, refused}
+use Rattle.tilings.specs.Plan.{Chosen, empty, noTiling, tiling, Reached}
 use Rattle.family_13.specs.Tables.{«SUB_CONFIG_13»}
+use Rattle.choice.specs.Choice.{Said, made, refused}
 
 -- how many edge readings a choice for each case makes at most, from case 0
 unfoldable pub readings : List ℕ
@@ -22,15 +23,22 @@ isMinus1 (negsuc n) = eqb n 0
 unfoldable pub holdsMinus1 : ℕ → Bool
 holdsMinus1 sub = isMinus1 (getD «SUB_CONFIG_13» sub (pos 0))
 
--- a tiling of the case, a row and a column that its table has, its centre, and no more unsettled than edge readings;
--- or what else there is: empty for case 0, no tiling for case 13 where SUB_CONFIG_13 holds -1, and the refusals of a choice, where 9 is never given
-unfoldable pub inRanges : ℕ → Chosen → Bool
-inRanges case empty = eqb case 0
-inRanges case (noTiling c sub) = eqb case 13 && ltb c 2 && holdsMinus1 sub
-inRanges case (tiling code row column centre m) =
+-- a tiling of the case, a row and a column that its table has, and its centre; or what else there is: empty for case 0, no tiling for case 13
+-- where SUB_CONFIG_13 holds -1
+unfoldable pub placed : ℕ → Chosen → Bool
+placed case empty = eqb case 0
+placed case (noTiling c sub) = eqb case 13 && ltb c 2 && holdsMinus1 sub
+placed case (tiling code row column centre) =
     isOneOf code (getD tilingsOf case [])
     && ltb row (getD configurations case 0)
     && ltb column (columnsOf code)
     && Bool·beq centre (hasCentre code)
-    && leb (m .unsettled) (getD readings case 0)
-inRanges case (refused n) = isOneOf n (1 ∷ 2 ∷ 3 ∷ [])
+
+-- and no more unsettled than edge readings
+unfoldable pub inRanges : ℕ → Reached → Bool
+inRanges case r = placed case (r .choice) && leb (r .notes .unsettled) (getD readings case 0)
+
+-- or one of the refusals of a choice
+unfoldable pub saidInRanges : ℕ → Said → Bool
+saidInRanges case (made r) = inRanges case r
+saidInRanges case (refused n) = isOneOf n (1 ∷ 2 ∷ 3 ∷ [])

@@ -7,8 +7,8 @@ use lib.IntN.{pos}
 use Rattle.cube.specs.declared.Cube.{Cube}
 use Rattle.cube.specs.Corners.{cube}
 use Rattle.tilings.specs.Tilings.{«TILING_3_1», «TILING_3_2», «TILING_4_1», «TILING_4_2», «TILING_7_4_2», «TILING_10_1_2», «TILING_13_1», «TILING_13_1_»}
-use Rattle.tilings.specs.Plan.{Chosen, tiling}
-use Rattle.choice.specs.Choice.{choiceOf}
+use Rattle.tilings.specs.Plan.{tiling, reach}
+use Rattle.choice.specs.Choice.{Said, made, answerOf}
 
 abbrev one : ℕ
 one = 0x3f800000
@@ -20,11 +20,11 @@ pub record Star : Type 0 where
   pub case : ℕ
   pub configuration : ℕ
   pub q : Cube
-  pub says : Chosen
+  pub says : Said
 
 -- a tiling of column 0 and without the centre
 abbrev star : ℕ → ℕ → Cube → ℕ → ℕ → ℕ → Star
-star case c q code row unsettled = record { case = case; configuration = c; q = q; says = tiling code row 0 false (record { unsettled = unsettled }) }
+star case c q code row unsettled = record { case = case; configuration = c; q = q; says = made (reach (tiling code row 0 false) (record { unsettled = unsettled })) }
 
 unfoldable pub stars : List Star
 stars =
@@ -51,4 +51,4 @@ stars =
     ∷ []
 
 abbrev pub StarredCubes : Type 0
-StarredCubes = map (λ s. choiceOf (pos (s .case)) (pos (s .configuration)) (s .q)) stars ≡ map (λ s. s .says) stars
+StarredCubes = map (λ s. answerOf (pos (s .case)) (pos (s .configuration)) (s .q)) stars ≡ map (λ s. s .says) stars

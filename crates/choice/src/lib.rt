@@ -2,20 +2,27 @@
 // lists want apart: `refusal` and `choose_tested`.
 ghost use mathlib.Core.Path.{_≡_};
 ghost use mathlib.Core.Bool.{cond};
-ghost use Prim.Native.Nat.{_<_};
+ghost use Prim.Native.Nat.{_<_, _≤_};
 ghost use lib.Dec.{T};
 ghost use lib.IntN.{pos};
 ghost use lib.ListN.{getD};
 ghost use Rattle.tilings.specs.Tilings.{configurations};
-ghost use Rattle.tilings.specs.Answers.{chosen};
-ghost use Rattle.choice.specs.Choice.{natOf, choiceOf, refusalOf};
+ghost use Rattle.tilings.specs.Answers.{reached};
+ghost use Rattle.choice.specs.Choice.{natOf, refusalOf, choiceOf, answerOf, said};
+ghost use Rattle.choice.specs.Inner.{InnerNumbers};
 ghost use Rattle.choice.specs.Kin.{kin, kinOf};
-ghost use Rattle.choice.specs.Ranges.{inRanges};
+ghost use Rattle.choice.specs.Ranges.{saidInRanges};
 ghost use Rattle.choice.specs.Starred.{StarredCubes};
 use cube::Cube;
 use cube::Refusal;
 use cube::Split;
-use tilings::Choice;
+use tilings::Counted;
+
+// What is answered: the choice with what was counted, or why there is none.
+pub enum Answer {
+    Chosen(Counted),
+    Refused(Refusal),
+}
 
 // A case and one of its configurations; `Nothing` is case 0.
 enum Family {
@@ -83,29 +90,30 @@ fn family_of(case: i8, configuration: i8) -> Family
     }
 }
 
-// The choice: refusal 1, 2 or 3 in this order, or what document 01 chooses. Refusal 9 is never given.
-pub fn handle_cube(case: i8, configuration: i8, q: Cube) -> Choice
-    ensures choice { λ r. ⌜ chosen r ≡ choiceOf case configuration q ⌝ }
-    ensures ranges { λ r. ⌜ T (inRanges (natOf case) (chosen r)) ⌝ }
+// The choice: refusal 1, 2 or 3 in this order, or what document 01 chooses.
+pub fn handle_cube(case: i8, configuration: i8, q: Cube) -> Answer
+    ensures choice { λ r. ⌜ said r ≡ answerOf case configuration q ⌝ }
+    ensures ranges { λ r. ⌜ T (saidInRanges (natOf case) (said r)) ⌝ }
     ensures starred { λ r. ⌜ StarredCubes ⌝ }
+    ensures inner { λ r. ⌜ InnerNumbers ⌝ }
 {
     match family_of(case, configuration) {
         Family::Nothing => {
             if cube::all_finite(q) {
-                return Choice::Empty;
+                return Answer::Chosen(tilings::nothing());
             }
-            Choice::Refused(Refusal::NotFinite)
+            Answer::Refused(Refusal::NotFinite)
         }
         Family::Known(k, c) => {
             if cube::all_finite(q) {
                 if families::asks(k) {
-                    return families::choose(q, k, c);
+                    return Answer::Chosen(families::choose(q, k, c));
                 }
-                return families::choose_plain(q, k, c);
+                return Answer::Chosen(families::choose_plain(q, k, c));
             }
-            Choice::Refused(Refusal::NotFinite)
+            Answer::Refused(Refusal::NotFinite)
         }
-        Family::Refused(why) => Choice::Refused(why),
+        Family::Refused(why) => Answer::Refused(why),
     }
 }
 
@@ -116,10 +124,9 @@ fn corner_refusal(finite: bool) -> u8
     if finite { 0 } else { 3 }
 }
 
-// A choice's refusal by its number, 0 where it is made. No choice is made for it: past 1, 2 and 3
-// nothing is refused.
+// A choice's refusal by its number, 0 where it is made. No choice is made for it.
 pub fn refusal(case: i8, configuration: i8, q: Cube) -> u8
-    ensures { λ r. ⌜ r ≡ refusalOf (choiceOf case configuration q) ⌝ }
+    ensures { λ r. ⌜ r ≡ refusalOf case configuration q ⌝ }
 {
     let finite = cube::all_finite(q);
     match family_of(case, configuration) {
@@ -131,9 +138,10 @@ pub fn refusal(case: i8, configuration: i8, q: Cube) -> u8
 
 // The choice of a cube that `refusal` gives 0 for: the tests are not made again. An inner routine for
 // lists.
-pub fn choose_tested(case: i8, configuration: i8, q: Cube) -> Choice
-    requires { ⌜ refusalOf (choiceOf case configuration q) ≡ 0 ⌝ }
-    ensures { λ r. ⌜ chosen r ≡ choiceOf case configuration q ⌝ }
+pub fn choose_tested(case: i8, configuration: i8, q: Cube) -> Counted
+    requires { ⌜ refusalOf case configuration q ≡ 0 ⌝ }
+    ensures choice { λ r. ⌜ reached r ≡ choiceOf case configuration q ⌝ }
+    ensures few { λ r. ⌜ r .notes .unsettled ≤ 3 ⌝ }
 {
     match cube::take_apart(case) {
         Split::NotBelow(n) => match cube::take_apart(configuration) {
@@ -144,8 +152,8 @@ pub fn choose_tested(case: i8, configuration: i8, q: Cube) -> Choice
                 families::choose_plain(q, n, c)
             }
             // case 0's
-            Split::Below(_) => Choice::Empty,
+            Split::Below(_) => tilings::nothing(),
         },
-        Split::Below(_) => Choice::Empty,
+        Split::Below(_) => tilings::nothing(),
     }
 }

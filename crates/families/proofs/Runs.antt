@@ -23,7 +23,7 @@ use Rattle.tilings.specs.Answers.{answersOf, sideOf}
 use Rattle.tilings.proofs.Columns.{tableOf, rowed, in-rows}
 use Rattle.tilings.proofs.Turns.{in-turn, codeOf, columnOf}
 use Rattle.families.specs.Tables.{«TEST_3», «TEST_4», «TEST_6», «TEST_7»}
-use Rattle.families.specs.Plans.{plan3, plan4, plan6, part7, plan7, faces125}
+use Rattle.families.specs.Plans.{plan3, plan4, plan6, part7, faces7, plan7, faces125}
 
 -- a tiling in a table with one tiling a row, by what was counted
 abbrev made : ℕ → ℕ → Notes → Reached
@@ -100,10 +100,7 @@ seven-tabled q c sub l h =
     agree (λ k. reach (tiling (getD (tableOf code7 7) k 0) c (getD (tableOf column7 7) k 0) (hasCentre (getD (tableOf code7 7) k 0))) noNotes) (λ k. run (answersOf q) (part7 c k) noNotes) 7 refl sub
     (omega (arith, l, h))
 
--- the faces of the case
-abbrev faces7 : ℕ → List ℤ
-faces7 c = entry «TEST_7» c 0 ∷ entry «TEST_7» c 1 ∷ entry «TEST_7» c 2 ∷ []
-
+-- the faces as the code reads them
 abbrev read7 : ℕ → ℕ → ℤ
 read7 k c = rowed (λ j. entry «TEST_7» j k) 2 c
 

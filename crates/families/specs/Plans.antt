@@ -1,7 +1,7 @@
 -- Document 01, 'Choice': the plan of each case for a configuration c, line by line as handle_cube has it. Definitions only.
 use Prim.Native.Nat.{ℕ}
 use mathlib.Core.List.{List, [], _∷_}
-use lib.IntN.{pos, negℤ, natAbs}
+use lib.IntN.{ℤ, pos, negℤ, natAbs}
 use lib.ListN.{getD}
 use Rattle.tilings.specs.Tables.{entry}
 use Rattle.tilings.specs.Tilings.{«TILING_1», «TILING_2», «TILING_3_1», «TILING_3_2», «TILING_4_1», «TILING_4_2», «TILING_5», «TILING_6_1_1», «TILING_6_1_2», «TILING_6_2», «TILING_7_1», «TILING_7_2», «TILING_7_3», «TILING_7_4_1», «TILING_7_4_2», «TILING_8», «TILING_9», «TILING_11», «TILING_14»}
@@ -42,8 +42,12 @@ parts7 c =
 unfoldable pub part7 : ℕ → ℕ → Plan
 part7 c sub = getD (parts7 c) sub nothing
 
+-- the faces whose answers make the sub-configuration
+abbrev pub faces7 : ℕ → List ℤ
+faces7 c = entry «TEST_7» c 0 ∷ entry «TEST_7» c 1 ∷ entry «TEST_7» c 2 ∷ []
+
 unfoldable pub plan7 : ℕ → Plan
-plan7 c = askInTurn (entry «TEST_7» c 0 ∷ entry «TEST_7» c 1 ∷ entry «TEST_7» c 2 ∷ []) (part7 c)
+plan7 c = askInTurn (faces7 c) (part7 c)
 
 -- the cases that ask nothing
 abbrev plain : ℕ → ℕ → Plan

@@ -51,7 +51,12 @@ unfoldable pub part13 : ℕ → ℕ → ℤ → Plan
 part13 c sub (negsuc n) = untiled c sub
 part13 c sub (pos n) = let p = partOf13 n in tile13 c (p .code) (n - p .first)
 
+abbrev pub partAt13 : ℕ → ℕ → Plan
+partAt13 c sub = part13 c sub (getD «SUB_CONFIG_13» sub (negsuc 0))
+
+-- the faces whose answers make the sub-configuration
+abbrev pub faces13 : ℕ → List ℤ
+faces13 c = let e = entry «TEST_13» c in e 0 ∷ e 1 ∷ e 2 ∷ e 3 ∷ e 4 ∷ e 5 ∷ []
+
 unfoldable pub plan13 : ℕ → Plan
-plan13 c =
-    let e = entry «TEST_13» c in
-    askInTurn (e 0 ∷ e 1 ∷ e 2 ∷ e 3 ∷ e 4 ∷ e 5 ∷ []) (λ sub. part13 c sub (getD «SUB_CONFIG_13» sub (negsuc 0)))
+plan13 c = askInTurn (faces13 c) (partAt13 c)

@@ -2,17 +2,17 @@
 ghost use mathlib.Core.Path.{_≡_};
 ghost use Prim.Native.Nat.{_+_, _*_, _/_, _≤_, _<_};
 ghost use lib.ListN.{length};
-ghost use Rattle.tilings.specs.Answers.{chosen};
-ghost use Rattle.choice.specs.Choice.{refusalOf, unsettledIn};
+ghost use Rattle.tilings.specs.Answers.{reached};
 ghost use Rattle.put.specs.Placed.{placed};
 ghost use Rattle.reader.specs.Reader.{cubeAt};
-ghost use Rattle.list.specs.Lists.{choiceAt, bytesOf, done, firstFrom, rowsOf, resultOf, answersOf};
+ghost use Rattle.list.specs.Lists.{refusalAt, choiceAt, bytesOf, done, firstFrom, rowsOf, resultOf, answersOf};
 ghost use Rattle.list.specs.Results.{result, bytesIn};
 ghost use Rattle.list.specs.Tries.{ListTries};
 use cube::Cube;
 use cube::Refusal;
 use reader::Step;
 use tilings::Choice;
+use tilings::Counted;
 
 // Done, or document 01's number of a refusal and the place of its cube.
 pub enum Outcome {
@@ -55,7 +55,7 @@ fn cube_at(corners: &[f32], i: usize) -> Cube
 
 fn refusal_at(corners: &[f32], numbers: &[i8], i: usize) -> u8
     requires { ⌜ (i < length (now corners) / 8) × (2 * i + 2 ≤ length (now numbers)) ⌝ }
-    ensures { λ r. ⌜ r ≡ refusalOf (choiceAt (now (corners .entry)) (now (numbers .entry)) i) ⌝ }
+    ensures { λ r. ⌜ r ≡ refusalAt (now (corners .entry)) (now (numbers .entry)) i ⌝ }
 {
     choice::refusal(numbers[2 * i], numbers[2 * i + 1], cube_at(corners, i))
 }
@@ -87,10 +87,11 @@ fn filled(code: u8, row: u8, column: u8, rest: u8) -> Row
     }
 }
 
-fn row_of(choice: Choice) -> Row
-    requires { ⌜ unsettledIn (chosen choice) ≤ 3 ⌝ }
-    ensures { λ r. ⌜ bytesIn r ≡ bytesOf (chosen choice) ⌝ }
+fn row_of(r: Counted) -> Row
+    requires { ⌜ r .notes .unsettled ≤ 3 ⌝ }
+    ensures { λ x. ⌜ bytesIn x ≡ bytesOf (reached r) ⌝ }
 {
+    let choice = r.choice;
     match choice {
         Choice::Empty => filled(0, 0, 0, 0),
         Choice::Untiled(c, sub) => filled(255, c, sub, 0),
@@ -98,16 +99,15 @@ fn row_of(choice: Choice) -> Row
             t.code,
             t.row,
             t.column,
-            t.centre as u8 + 2 * t.notes.unsettled,
+            t.centre as u8 + 2 * r.notes.unsettled,
         ),
-        Choice::Refused(_) => filled(0, 0, 0, 0),
     }
 }
 
 // The row of cube i, which is not refused.
 fn row_at(corners: &[f32], numbers: &[i8], i: usize) -> Row
     requires place { ⌜ (i < length (now corners) / 8) × (2 * i + 2 ≤ length (now numbers)) ⌝ }
-    requires made { ⌜ refusalOf (choiceAt (now corners) (now numbers) i) ≡ 0 ⌝ }
+    requires made { ⌜ refusalAt (now corners) (now numbers) i ≡ 0 ⌝ }
     ensures { λ r. ⌜ bytesIn r ≡ bytesOf (choiceAt (now (corners .entry)) (now (numbers .entry)) i) ⌝ }
 {
     row_of(choice::choose_tested(numbers[2 * i], numbers[2 * i + 1], cube_at(corners, i)))

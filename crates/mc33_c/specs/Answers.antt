@@ -6,7 +6,9 @@ use Rattle.cube.specs.Bits.{bitOf}
 use Rattle.face.specs.Face as Face
 use Rattle.edge.specs.Edge.{Told, rising, beyond, crossed, blank}
 use Rattle.edge.specs.Edge as Edge
-use Rattle.tilings.specs.Plan.{Chosen, empty, noTiling, tiling, refused}
+use Rattle.notes.specs.declared.Notes.{Notes}
+use Rattle.tilings.specs.Plan.{Chosen, empty, noTiling, tiling, Reached}
+use Rattle.choice.specs.Choice.{Said, made, refused}
 use Rattle.list.specs.Lists.{Result, done, refusedAt}
 use Rattle.mc33_c.specs.declared.Mc33Choice.{Mc33Choice}
 use Rattle.mc33_c.specs.declared.Mc33Face.{Mc33Face}
@@ -17,10 +19,16 @@ abbrev pub answered : ℕ → ℕ → ℕ → ℕ → ℕ → Mc33Choice
 answered code row column centre unsettled = record { refusal = 0; code = code; row = row; column = column; centre = centre; unsettled = unsettled }
 
 -- document 01, 'Program': the fields of a tiling; empty is five zeros; no tiling is 255, configuration, sub-configuration, 0, 0
-unfoldable pub choiceNumbers : Chosen → Mc33Choice
-choiceNumbers empty = answered 0 0 0 0 0
-choiceNumbers (noTiling c sub) = answered 255 c sub 0 0
-choiceNumbers (tiling code row column centre m) = answered code row column (bitOf centre) (m .unsettled)
+abbrev numbersBy : Chosen → Notes → Mc33Choice
+numbersBy empty m = answered 0 0 0 0 0
+numbersBy (noTiling c sub) m = answered 255 c sub 0 0
+numbersBy (tiling code row column centre) m = answered code row column (bitOf centre) (m .unsettled)
+
+unfoldable pub reachedNumbers : Reached → Mc33Choice
+reachedNumbers r = numbersBy (r .choice) (r .notes)
+
+unfoldable pub choiceNumbers : Said → Mc33Choice
+choiceNumbers (made r) = reachedNumbers r
 choiceNumbers (refused n) = record { refusal = n; code = 0; row = 0; column = 0; centre = 0; unsettled = 0 }
 
 unfoldable pub faceNumbers : Face.Said → Mc33Face

@@ -1,9 +1,9 @@
 -- The version of the static library, as include/mc33.h has it. Definitions only.
 use Prim.Native.Nat.{ℕ, _+_, _*_}
 
--- moves where a caller that was built before would read something wrongly
+-- moves where a caller that was built before would read something wrongly or no longer build
 abbrev pub major : ℕ
-major = 1
+major = 2
 
 -- moves where something is added
 abbrev pub minor : ℕ

@@ -8,14 +8,14 @@ ghost use Rattle.face.specs.Face.{testFaceOf};
 ghost use Rattle.edge.specs.Edge.{told, edgeReadingOf};
 ghost use Rattle.cube.specs.Bits.{bitOf};
 ghost use Rattle.cube.specs.Refusals.{refusalNumber};
-ghost use Rattle.tilings.specs.Plan.{refused};
-ghost use Rattle.tilings.specs.Answers.{chosen};
-ghost use Rattle.choice.specs.Choice.{choiceOf};
+ghost use Rattle.tilings.specs.Answers.{reached};
+ghost use Rattle.choice.specs.Choice.{refused, answerOf, said};
 ghost use lib.ListN.{length};
 ghost use Rattle.list.specs.Lists.{resultOf, answersOf};
 ghost use Rattle.list.specs.Results.{result};
 ghost use Rattle.mc33_c.specs.Version.{version};
-ghost use Rattle.mc33_c.specs.Answers.{answered, choiceNumbers, faceNumbers, readAs, readingNumbers, edgeNumbers, outcomeNumbers};
+ghost use Rattle.mc33_c.specs.Answers.{answered, reachedNumbers, choiceNumbers, faceNumbers, readAs, readingNumbers, edgeNumbers, outcomeNumbers};
+use choice::Answer;
 use cube::Cube;
 use cube::EdgeNo;
 use cube::Face;
@@ -25,6 +25,7 @@ use edge::Reading;
 use face::FaceAnswer;
 use list::Outcome;
 use tilings::Choice;
+use tilings::Counted;
 
 // `refusal` is 0 where there is an answer. Empty is all 0; no tiling is code 255 with the configuration
 // as row and the sub-configuration as column.
@@ -67,7 +68,7 @@ pub struct Mc33Outcome {
 pub extern "C" fn mc33_version() -> u32
     ensures { λ r. ⌜ r ≡ version ⌝ }
 {
-    1000
+    2000
 }
 
 // The f32 square root of x: the nearest value. A NaN has no pattern of its own here.
@@ -116,21 +117,30 @@ fn answered(code: u8, row: u8, column: u8, centre: bool, unsettled: u8) -> Mc33C
 }
 
 // A choice as numbers.
-fn choice_numbers(choice: Choice) -> Mc33Choice
-    ensures { λ r. ⌜ r ≡ choiceNumbers (chosen choice) ⌝ }
+fn reached_numbers(r: Counted) -> Mc33Choice
+    ensures { λ x. ⌜ x ≡ reachedNumbers (reached r) ⌝ }
 {
+    let choice = r.choice;
     match choice {
         Choice::Empty => answered(0, 0, 0, false, 0),
         Choice::Untiled(c, sub) => answered(255, c, sub, false, 0),
-        Choice::Tiled(t) => answered(t.code, t.row, t.column, t.centre, t.notes.unsettled),
-        Choice::Refused(why) => no_choice(why),
+        Choice::Tiled(t) => answered(t.code, t.row, t.column, t.centre, r.notes.unsettled),
+    }
+}
+
+fn choice_numbers(answer: Answer) -> Mc33Choice
+    ensures { λ r. ⌜ r ≡ choiceNumbers (said answer) ⌝ }
+{
+    match answer {
+        Answer::Chosen(r) => reached_numbers(r),
+        Answer::Refused(why) => no_choice(why),
     }
 }
 
 // The choice for a case, a configuration and a cube.
 #[no_mangle]
 pub extern "C" fn mc33_choose(case: i8, configuration: i8, cube: Cube) -> Mc33Choice
-    ensures { λ r. ⌜ r ≡ choiceNumbers (choiceOf case configuration cube) ⌝ }
+    ensures { λ r. ⌜ r ≡ choiceNumbers (answerOf case configuration cube) ⌝ }
 {
     choice_numbers(choice::handle_cube(case, configuration, cube))
 }

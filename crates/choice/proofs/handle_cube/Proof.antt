@@ -1,21 +1,23 @@
--- `choice::handle_cube` chooses what `choiceOf` does, in the ranges; and the starred cubes.
+-- `choice::handle_cube` answers what `answerOf` does, in the ranges; the starred cubes; and that no inner number leaves its table.
 use mathlib.Core.Path.{_≡_, subst, sym, _∙_}
-use borrow.Author.Needs.{needs}
 use lib.Dec.{T}
 use lib.IntN.{ℤ}
+use borrow.Author.Needs.{needs}
 use Rattle.cube.specs.declared.Cube.{Cube}
-use Rattle.tilings.specs.Plan.{Chosen}
-use Rattle.choice.specs.Choice.{natOf, choiceOf}
-use Rattle.choice.specs.Ranges.{inRanges}
+use Rattle.choice.specs.Choice.{natOf, Said, answerOf}
+use Rattle.choice.specs.Inner.{InnerNumbers}
+use Rattle.choice.specs.Ranges.{saidInRanges}
 use Rattle.choice.specs.Starred.{StarredCubes}
 use Rattle.choice.proofs.Families.{one-of-its, by-nothing, by-nothing-refused, by-plan, by-plan-refused, by-refusal}
+use Rattle.choice.proofs.Inner.{inner-numbers}
 use Rattle.choice.proofs.Ranges.{ranges}
 use Rattle.choice.proofs.Starred.{starred}
 use Rattle.choice.proofs.handle_cube.Statement.{statement}
 use Rattle.choice.proofs.handle_cube.Tie as tie
 
-promised : (x y : ℤ) (q : Cube) (r : Chosen) → r ≡ choiceOf x y q → (r ≡ choiceOf x y q) × (T (inRanges (natOf x) r) × StarredCubes)
-promised x y q r e = (e, (subst (λ (s : Chosen). T (inRanges (natOf x) s)) (sym e) (ranges x y q), starred))
+promised : (x y : ℤ) (q : Cube) (r : Said) → r ≡ answerOf x y q
+    → (r ≡ answerOf x y q) × (T (saidInRanges (natOf x) r) × (StarredCubes × InnerNumbers))
+promised x y q r e = (e, (subst (λ (s : Said). T (saidInRanges (natOf x) s)) (sym e) (ranges x y q), (starred, inner-numbers)))
 
 family-of-requires : tie.Need-family-of-requires
 family-of-requires c κs = search needs
@@ -25,6 +27,9 @@ enum-told c = search needs
 
 all-finite-requires : tie.Need-all-finite-requires
 all-finite-requires c κs = search needs
+
+nothing-requires : tie.Need-nothing-requires
+nothing-requires c κs = search needs
 
 returns : tie.Need-returns
 returns c = promised _ _ _ _ (search by-nothing)
@@ -69,6 +74,7 @@ handle-cube-spec =
     family-of-requires
     enum-told
     all-finite-requires
+    nothing-requires
     returns
     enum-known-k
     all-finite-requires-2

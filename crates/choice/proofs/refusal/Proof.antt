@@ -1,4 +1,4 @@
--- `choice::refusal` gives the number of the refusal of `choiceOf`, 0 where there is none.
+-- `choice::refusal` is `refusalOf`.
 use borrow.Author.Needs.{needs}
 use Rattle.choice.proofs.Families.{nothing-told, known-told, number-told}
 use Rattle.choice.proofs.refusal.Statement.{statement}
