@@ -12,12 +12,12 @@ use Rattle.family_13.specs.Tables.{«TEST_13», «SUB_CONFIG_13»}
 use Rattle.family_13.specs.Plans.{parts13, lastFrom, tile13, part13, plan13}
 use Rattle.families.specs.Tables.{«TEST_3», «TEST_4», «TEST_7»}
 use Rattle.families.specs.Plans.{plan3, plan4, part7, plan7, plans, planOf}
-use Rattle.choice.specs.Choice.{choiceOf, refusalOf}
+use Rattle.choice.specs.Choice.{refusalOf, choiceOf}
 use Rattle.reader.specs.Reader.{cubeAt}
-use Rattle.list.specs.Lists.{lengthsAgree, choiceAt, firstFrom, resultOf, bytesOf, rowsOf, answersOf}
+use Rattle.list.specs.Lists.{lengthsAgree, refusalAt, choiceAt, firstFrom, resultOf, bytesOf, rowsOf, answersOf}
 use Rattle.list.specs.Tries.{tries, ListTries}
 use Rattle.list.proofs.Empties.{any-number}
 
 pub tries-hold : ListTries
-unfolding tries lengthsAgree choiceAt firstFrom resultOf bytesOf rowsOf answersOf cubeAt choiceOf refusalOf run settled askInTurn planOf plans plan3 plan4 plan7 part7 plan13 part13 tile13 lastFrom parts13 «TEST_3» «TEST_4» «TEST_7» «TEST_13» «SUB_CONFIG_13» configurations hasCentre faceOf faceBy rule faceCorner faceCorners insideOf insideBy joined lookAt seenAs noteOf pickBy pickWith lastMatch diagonals edgeBy readBy crossBy moveOf moves cornerOf valueAt corners allFinite ofBits neg add sub mul div lt eq le isNan ofInt
+unfolding tries lengthsAgree refusalAt choiceAt firstFrom resultOf bytesOf rowsOf answersOf cubeAt refusalOf choiceOf run settled askInTurn planOf plans plan3 plan4 plan7 part7 plan13 part13 tile13 lastFrom parts13 «TEST_3» «TEST_4» «TEST_7» «TEST_13» «SUB_CONFIG_13» configurations hasCentre faceOf faceBy rule faceCorner faceCorners insideOf insideBy joined lookAt seenAs noteOf pickBy pickWith lastMatch diagonals edgeBy readBy crossBy moveOf moves cornerOf valueAt corners allFinite ofBits neg add sub mul div lt eq le isNan ofInt
 tries-hold = record { outcomes = refl; answers = refl; anyNumber = any-number }

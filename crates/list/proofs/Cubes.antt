@@ -1,4 +1,4 @@
--- A list's cubes and their choices, as the code reads them. Assumes nothing.
+-- A list's cubes, their refusals and choices, as the code reads them. Assumes nothing.
 use mathlib.Core.Path.{_≡_, sym, ap, _∙_}
 use mathlib.Core.Bool.{Bool, cond}
 use mathlib.Core.List.{List}
@@ -15,10 +15,8 @@ use Rattle.cube.specs.declared.Cube.{Cube}
 use Rattle.reader.specs.declared.Step.{Step}
 use Rattle.reader.specs.declared.Step.the-variants as step
 use Rattle.reader.specs.Reader.{Standing, cube, part, end, standing, cubeAt, stepAt}
-use Rattle.tilings.specs.Plan.{Chosen}
-use Rattle.choice.specs.Choice.{choiceOf, unsettledIn}
-use Rattle.choice.proofs.Ranges.{unsettled-bound}
-use Rattle.list.specs.Lists.{choiceAt}
+use Rattle.choice.specs.Choice.{refusalOf, choiceOf}
+use Rattle.list.specs.Lists.{refusalAt, choiceAt}
 
 module _ (xs : List Float) (i : ℕ) (h : i < length xs / 8) (r : Step) (e : standing r ≡ stepAt xs i) where
   stands : standing r ≡ cube (cubeAt xs i)
@@ -42,10 +40,11 @@ module _ (xs : List Float) (i : ℕ) (h : i < length xs / 8) (r : Step) (e : sta
       cc
 
 -- the case, the configuration and the cube as they are read
-pub at-place : (xs : List Float) (ns : List ℤ) (i : ℕ) (q : Cube) → SFits w8 (getD ns (2 * i) (pos 0)) → SFits w8 (getD ns (2 * i + 1) (pos 0)) → q ≡ cubeAt xs i
-    → choiceOf (toZ w8 (ofZ w8 (getD ns (2 * i) (pos 0)))) (toZ w8 (ofZ w8 (getD ns (2 * i + 1) (pos 0)))) q ≡ choiceAt xs ns i
-unfolding choiceAt
-at-place xs ns i q f g e = rw (toZ-ofZ w8 (getD ns (2 * i) (pos 0)) f, toZ-ofZ w8 (getD ns (2 * i + 1) (pos 0)) g, e)
+module _ (xs : List Float) (ns : List ℤ) (i : ℕ) (q : Cube) (f : SFits w8 (getD ns (2 * i) (pos 0))) (g : SFits w8 (getD ns (2 * i + 1) (pos 0))) (e : q ≡ cubeAt xs i) where
+  pub refusal-read : refusalOf (toZ w8 (ofZ w8 (getD ns (2 * i) (pos 0)))) (toZ w8 (ofZ w8 (getD ns (2 * i + 1) (pos 0)))) q ≡ refusalAt xs ns i
+  unfolding refusalAt
+  refusal-read = rw (toZ-ofZ w8 (getD ns (2 * i) (pos 0)) f, toZ-ofZ w8 (getD ns (2 * i + 1) (pos 0)) g, e)
 
-pub few-unsettled : (case configuration : ℤ) (q : Cube) (s : Chosen) → s ≡ choiceOf case configuration q → unsettledIn s ≤ 3
-few-unsettled case configuration q s e = rw e (unsettled-bound case configuration q)
+  pub choice-read : choiceOf (toZ w8 (ofZ w8 (getD ns (2 * i) (pos 0)))) (toZ w8 (ofZ w8 (getD ns (2 * i + 1) (pos 0)))) q ≡ choiceAt xs ns i
+  unfolding choiceAt
+  choice-read = rw (toZ-ofZ w8 (getD ns (2 * i) (pos 0)) f, toZ-ofZ w8 (getD ns (2 * i + 1) (pos 0)) g, e)

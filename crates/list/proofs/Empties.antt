@@ -13,18 +13,23 @@ use Rattle.binary32.specs.Numbers.{plusZero}
 use Rattle.cube.specs.declared.Cube.{Cube}
 use Rattle.cube.specs.Corners.{corners, allFinite}
 use Rattle.tilings.specs.Tilings.{configurations}
-use Rattle.tilings.specs.Plan.{Chosen, empty, run}
+use Rattle.notes.specs.Notes.{noNotes}
+use Rattle.tilings.specs.Plan.{empty, Reached, reach, run}
 use Rattle.families.specs.Plans.{plans, planOf}
-use Rattle.choice.specs.Choice.{choiceOf, refusalOf}
+use Rattle.choice.specs.Choice.{refusalOf, choiceOf}
 use Rattle.reader.specs.Reader.{cubeAt}
-use Rattle.list.specs.Lists.{cubes, lengthsAgree, choiceAt, Result, done, refusedAt, firstFrom, resultOf, bytesOf, rowsOf, answersBy, answersOf}
+use Rattle.list.specs.Lists.{cubes, lengthsAgree, refusalAt, choiceAt, Result, done, refusedAt, firstFrom, resultOf, bytesOf, rowsOf, answersBy, answersOf}
 use Rattle.list.specs.Tries.{zeros, empties}
 
 abbrev nought : Cube
 nought = record { c0 = plusZero; c1 = plusZero; c2 = plusZero; c3 = plusZero; c4 = plusZero; c5 = plusZero; c6 = plusZero; c7 = plusZero }
 
-nought-empty : choiceOf (pos 0) (negsuc 0) nought ≡ empty
-unfolding choiceOf configurations corners allFinite planOf plans run
+nought-made : refusalOf (pos 0) (negsuc 0) nought ≡ 0
+unfolding refusalOf configurations corners allFinite
+nought-made = refl
+
+nought-empty : choiceOf (pos 0) (negsuc 0) nought ≡ reach empty noNotes
+unfolding choiceOf planOf plans run
 nought-empty = refl
 
 -- ---- the numbers
@@ -54,21 +59,25 @@ module _ (k : ℕ) where
       rw
       (value (8 * i) (omega arith), value (8 * i + 1) (omega arith), value (8 * i + 2) (omega arith), value (8 * i + 3) (omega arith), value (8 * i + 4) (omega arith), value (8 * i + 5) (omega arith), value (8 * i + 6) (omega arith), value (8 * i + 7) (omega arith))
 
-  choice-at : (i : ℕ) → i < k → choiceAt (zeros k) (empties k) i ≡ empty
+  made-at : (i : ℕ) → i < k → refusalAt (zeros k) (empties k) i ≡ 0
+  unfolding refusalAt
+  made-at i h = rw (numbers-at k i h .0, numbers-at k i h .1, cube-at i h) nought-made
+
+  choice-at : (i : ℕ) → i < k → choiceAt (zeros k) (empties k) i ≡ reach empty noNotes
   unfolding choiceAt
   choice-at i h = rw (numbers-at k i h .0, numbers-at k i h .1, cube-at i h) nought-empty
 
   none-refused : (j i : ℕ) → i + j ≤ k → firstFrom (zeros k) (empties k) j i ≡ done
-  unfolding firstFrom refusalOf
+  unfolding firstFrom
   none-refused zero i h = refl
-  none-refused (suc j) i h = rw (choice-at i (omega arith)) (none-refused j (suc i) (omega arith))
+  none-refused (suc j) i h = rw (made-at i (omega arith)) (none-refused j (suc i) (omega arith))
 
   rows-zero : (j : ℕ) → j ≤ k → rowsOf (zeros k) (empties k) j ≡ replicate (4 * j) 0
   unfolding rowsOf bytesOf
   rows-zero zero h = refl
   rows-zero (suc j) h =
       let e : 4 * j + 4 ≡ 4 * suc j = omega arith in
-      ap (λ (s : Chosen). rowsOf (zeros k) (empties k) j ++ bytesOf s) (choice-at j (omega arith))
+      ap (λ (s : Reached). rowsOf (zeros k) (empties k) j ++ bytesOf s) (choice-at j (omega arith))
       ∙ ap (λ (r : List ℕ). r ++ replicate 4 0) (rows-zero j (omega arith))
       ∙ replicate-append-replicate (4 * j) 4 0
       ∙ ap (λ (n : ℕ). replicate n 0) e

@@ -10,8 +10,7 @@ use lib.Dec.{eqb}
 use lib.IntN.{ℤ}
 use lib.Ieee.{Float}
 use borrow.Author.Tests.{eqb-true, ne-eqb}
-use Rattle.choice.specs.Choice.{refusalOf}
-use Rattle.list.specs.Lists.{choiceAt, Result, done, refusedAt, firstFrom}
+use Rattle.list.specs.Lists.{refusalAt, Result, done, refusedAt, firstFrom}
 
 -- by the number of a cube's refusal, and what the cubes after it come to
 abbrev turn : ℕ → ℕ → Result → Result
@@ -25,18 +24,18 @@ pub from-first : (xs : List Float) (ns : List ℤ) (n : ℕ) → firstFrom xs ns
 from-first xs ns n = ap (λ (k : ℕ). firstFrom xs ns k 0) (sub-zero n)
 
 module _ (xs : List Float) (ns : List ℤ) (n i : ℕ) where
-  next : i < n → firstFrom xs ns (n - i) i ≡ turn (refusalOf (choiceAt xs ns i)) i (firstFrom xs ns (n - (i + 1)) (i + 1))
+  next : i < n → firstFrom xs ns (n - i) i ≡ turn (refusalAt xs ns i) i (firstFrom xs ns (n - (i + 1)) (i + 1))
   unfolding firstFrom
   next h =
       let e : n - i ≡ suc (n - (i + 1)) = omega arith in
       ap (λ (k : ℕ). firstFrom xs ns k i) e
-      ∙ ap (λ (j : ℕ). turn (refusalOf (choiceAt xs ns i)) i (firstFrom xs ns (n - (i + 1)) j)) (sym (add-one i))
+      ∙ ap (λ (j : ℕ). turn (refusalAt xs ns i) i (firstFrom xs ns (n - (i + 1)) j)) (sym (add-one i))
 
-  pub next-made : i < n → (w : ℕ) → w ≡ refusalOf (choiceAt xs ns i) → w ≡ 0 → firstFrom xs ns (n - (i + 1)) (i + 1) ≡ firstFrom xs ns (n - i) i
+  pub next-made : i < n → (w : ℕ) → w ≡ refusalAt xs ns i → w ≡ 0 → firstFrom xs ns (n - (i + 1)) (i + 1) ≡ firstFrom xs ns (n - i) i
   next-made h w e z =
       sym (next h ∙ ap (λ (k : ℕ). turn k i (firstFrom xs ns (n - (i + 1)) (i + 1))) (sym e ∙ z))
 
-  pub next-refused : i < n → (w : ℕ) → w ≡ refusalOf (choiceAt xs ns i) → (w ≡ 0 → ⊥) → refusedAt w i ≡ firstFrom xs ns (n - i) i
+  pub next-refused : i < n → (w : ℕ) → w ≡ refusalAt xs ns i → (w ≡ 0 → ⊥) → refusedAt w i ≡ firstFrom xs ns (n - i) i
   next-refused h w e z =
       sym
       (next h
@@ -50,7 +49,7 @@ module _ (xs : List Float) (ns : List ℤ) (n i : ℕ) where
       ap (λ (k : ℕ). firstFrom xs ns k i) (sym e)
 
   -- where none is refused, not this one, and none of those after it
-  pub made-one : i < n → firstFrom xs ns (n - i) i ≡ done → (refusalOf (choiceAt xs ns i) ≡ 0) × (firstFrom xs ns (n - (i + 1)) (i + 1) ≡ done)
+  pub made-one : i < n → firstFrom xs ns (n - i) i ≡ done → (refusalAt xs ns i ≡ 0) × (firstFrom xs ns (n - (i + 1)) (i + 1) ≡ done)
   made-one h e =
-      let w = refusalOf (choiceAt xs ns i) in
+      let w = refusalAt xs ns i in
       parted w i (firstFrom xs ns (n - (i + 1)) (i + 1)) (eqb w 0) refl (sym (next h) ∙ e)

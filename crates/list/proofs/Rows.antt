@@ -9,12 +9,12 @@ use lib.ListN.{length, set, length-append}
 use lib.Ieee.{Float}
 use mir.Val.{boolByte}
 use Rattle.cube.proofs.Bounds.{bit-bound}
+use Rattle.notes.specs.declared.Notes.{Notes}
 use Rattle.tilings.specs.declared.Choice.{Choice}
 use Rattle.tilings.specs.declared.Choice.the-variants.{Tiled}
 use Rattle.tilings.specs.declared.Tiling.{Tiling}
-use Rattle.tilings.specs.Plan.{Chosen, empty, noTiling, tiling, refused}
+use Rattle.tilings.specs.Plan.{Chosen, empty, noTiling, tiling, Reached, reach}
 use Rattle.tilings.specs.Answers.{chosen}
-use Rattle.choice.specs.Choice.{unsettledIn}
 use Rattle.put.specs.Placed.{placed}
 use Rattle.put.proofs.Placed.{placed-length, placed-after, set-placed, set-after}
 use Rattle.list.specs.Lists.{choiceAt, bytesOf, rowsOf}
@@ -22,20 +22,17 @@ use Rattle.list.specs.declared.Row.{Row}
 use Rattle.list.specs.Results.{bytesIn}
 
 -- ---- a choice's row
-pub row-as : (r s : Row) → r ≡ s → (x y : Choice) → x ≡ y → bytesIn s ≡ bytesOf (chosen y) → bytesIn r ≡ bytesOf (chosen x)
-row-as r s e x y f g = ap bytesIn e ∙ g ∙ ap (λ (x : Choice). bytesOf (chosen x)) (sym f)
+module _ (m : Notes) where
+  pub row-as : (r s : Row) → r ≡ s → (x y : Choice) → x ≡ y → bytesIn s ≡ bytesOf (reach (chosen y) m) → bytesIn r ≡ bytesOf (reach (chosen x) m)
+  row-as r s e x y f g = ap bytesIn e ∙ g ∙ ap (λ (x : Choice). bytesOf (reach (chosen x) m)) (sym f)
 
-pub row-tiled : (r : Row) (t : Tiling) (x : Choice) → x ≡ Tiled t
-    → r ≡ record { code = t .code; row = t .row; column = t .column; rest = boolByte (t .centre) + 2 * t .notes .unsettled }
-    → bytesIn r ≡ bytesOf (chosen x)
-unfolding bytesOf
-row-tiled r t x f e =
-    row-as r (record { code = t .code; row = t .row; column = t .column; rest = boolByte (t .centre) + 2 * t .notes .unsettled }) e x (Tiled t) f
-    (ap (λ (n : ℕ). t .code ∷ t .row ∷ t .column ∷ (n + 2 * t .notes .unsettled) ∷ []) (bit-bound (t .centre) .1))
-
-pub unsettled-read : (x : Choice) (t : Tiling) → x ≡ Tiled t → unsettledIn (chosen x) ≤ 3 → t .notes .unsettled ≤ 3
-unfolding unsettledIn
-unsettled-read x t e h = subst (λ (x : Choice). unsettledIn (chosen x) ≤ 3) e h
+  pub row-tiled : (r : Row) (t : Tiling) (x : Choice) → x ≡ Tiled t
+      → r ≡ record { code = t .code; row = t .row; column = t .column; rest = boolByte (t .centre) + 2 * m .unsettled }
+      → bytesIn r ≡ bytesOf (reach (chosen x) m)
+  unfolding bytesOf
+  row-tiled r t x f e =
+      row-as r (record { code = t .code; row = t .row; column = t .column; rest = boolByte (t .centre) + 2 * m .unsettled }) e x (Tiled t) f
+      (ap (λ (n : ℕ). t .code ∷ t .row ∷ t .column ∷ (n + 2 * m .unsettled) ∷ []) (bit-bound (t .centre) .1))
 
 -- ---- four stores
 pub four-put : (xs : List ℕ) (at a b c d : ℕ) → at + 4 ≤ length xs
@@ -47,12 +44,14 @@ four-put xs at a b c d h =
     ∙ set-after xs at (a ∷ b ∷ c ∷ []) (at + 3) d refl (omega arith)
 
 -- ---- rows one after another
-bytes-length : (s : Chosen) → length (bytesOf s) ≡ 4
+four-each : (x : Chosen) (m : Notes) → length (bytesOf (reach x m)) ≡ 4
 unfolding bytesOf
-bytes-length empty = refl
-bytes-length (noTiling c sub) = refl
-bytes-length (tiling code row column centre m) = refl
-bytes-length (refused n) = refl
+four-each empty m = refl
+four-each (noTiling c sub) m = refl
+four-each (tiling code row column centre) m = refl
+
+bytes-length : (r : Reached) → length (bytesOf r) ≡ 4
+bytes-length r = four-each (r .choice) (r .notes)
 
 module _ (xs : List Float) (ns : List ℤ) where
   pub rows-length : (k : ℕ) → length (rowsOf xs ns k) ≡ 4 * k

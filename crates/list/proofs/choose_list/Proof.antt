@@ -9,7 +9,7 @@ number-requires : tie.Need-number-requires
 number-requires c κs = search needs
 
 returns : tie.Need-returns
-returns c = not-agreed _ _ _ _ (c .number .ensures) (c .before .if1 .taken)
+returns c = not-agreed _ _ _ _ (c .number .ensures .0) (c .before .if1 .taken)
 
 mul-if2 : tie.Need-mul-if2
 mul-if2 c = search needs
@@ -20,7 +20,7 @@ number-requires-2 c κs = search needs
 returns-2 : tie.Need-returns-2
 returns-2 c =
     let s = c .before .before .before .before .before .args in
-    no-room (s .corners .now) (s .numbers .now) (s .answers .now) (c .before .before .if1 .left) _ (c .number2 .ensures) (omega arith)
+    no-room (s .corners .now) (s .numbers .now) (s .answers .now) (c .before .before .if1 .left) _ (c .number2 .ensures .0) (omega arith)
 
 first-refused-requires : tie.Need-first-refused-requires
 first-refused-requires c κs =

@@ -1,7 +1,6 @@
--- `list::refusal_at` gives the refusal of `choiceAt`. Assumes nothing.
-use mathlib.Core.Path.{ap, _∙_}
-use Rattle.choice.specs.Choice.{refusalOf}
-use Rattle.list.proofs.Cubes.{at-place}
+-- `list::refusal_at` is `refusalAt`. Assumes nothing.
+use mathlib.Core.Path.{_∙_}
+use Rattle.list.proofs.Cubes.{refusal-read}
 use borrow.Author.Needs.{needs, sfits-of}
 use Rattle.list.proofs.refusal_at.Statement.{statement}
 use Rattle.list.proofs.refusal_at.Tie as tie
@@ -30,7 +29,7 @@ refusal-requires c κs = search needs
 returns : tie.Need-returns
 returns c =
     let s = c .before .before .before in
-    c .refusal .ensures ∙ ap refusalOf (at-place _ _ _ _ (sfits-of (s .refusal-arg .given)) (sfits-of (c .before .before .refusal-arg2 .given)) (c .before .cube-at .ensures))
+    c .refusal .ensures ∙ refusal-read _ _ _ _ (sfits-of (s .refusal-arg .given)) (sfits-of (c .before .before .refusal-arg2 .given)) (c .before .cube-at .ensures)
 
 pub refusal-at-spec : {M : Type 1} → statement M
 refusal-at-spec =

@@ -1,8 +1,7 @@
 -- `list::row_at` gives the bytes of the choice of `choiceAt`. Assumes nothing.
 use mathlib.Core.Path.{ap, _∙_}
-use Rattle.choice.specs.Choice.{refusalOf}
 use Rattle.list.specs.Lists.{bytesOf}
-use Rattle.list.proofs.Cubes.{at-place, few-unsettled}
+use Rattle.list.proofs.Cubes.{refusal-read, choice-read}
 use borrow.Author.Needs.{needs, sfits-of}
 use Rattle.list.proofs.row_at.Statement.{statement}
 use Rattle.list.proofs.row_at.Tie as tie
@@ -28,19 +27,19 @@ cube-at-requires c κs = search needs
 choose-tested-requires : tie.Need-choose-tested-requires
 choose-tested-requires c κs =
     let s = c .before .before in
-    ap refusalOf (at-place _ _ _ _ (sfits-of (s .choose-tested-arg .given)) (sfits-of (c .before .choose-tested-arg2 .given)) (c .cube-at .ensures))
+    refusal-read _ _ _ _ (sfits-of (s .choose-tested-arg .given)) (sfits-of (c .before .choose-tested-arg2 .given)) (c .cube-at .ensures)
     ∙ s .before .before .pre .1
 
 row-of-requires : tie.Need-row-of-requires
-row-of-requires c κs = few-unsettled _ _ _ _ (c .choose-tested .ensures)
+row-of-requires c κs = c .choose-tested .ensures .1
 
 returns : tie.Need-returns
 returns c =
     let s = c .before .before in
     c .row-of .ensures
     ∙ ap bytesOf
-    (c .before .choose-tested .ensures
-    ∙ at-place _ _ _ _ (sfits-of (s .before .before .choose-tested-arg .given)) (sfits-of (s .before .choose-tested-arg2 .given)) (s .cube-at .ensures))
+    (c .before .choose-tested .ensures .0
+    ∙ choice-read _ _ _ _ (sfits-of (s .before .before .choose-tested-arg .given)) (sfits-of (s .before .choose-tested-arg2 .given)) (s .cube-at .ensures))
 
 pub row-at-spec : {M : Type 1} → statement M
 row-at-spec =
