@@ -9,9 +9,8 @@ use lib.IntN.{ℤ}
 use lib.ListN.{length}
 use borrow.Author.Tests.{le-leb, lt-leb}
 use Rattle.cube.specs.declared.Cube.{Cube}
-use Rattle.tilings.specs.declared.Choice.{Choice}
-use Rattle.tilings.specs.Answers.{chosen}
-use Rattle.choice.specs.Choice.{choiceOf}
+use Rattle.choice.specs.declared.Answer.{Answer}
+use Rattle.choice.specs.Choice.{answerOf, said}
 use Rattle.line.specs.declared.Line.{Line}
 use Rattle.line.specs.declared.Line.the-variants.{Given, Malformed}
 use Rattle.line.specs.Line.{given, parsed, parseLine}
@@ -46,13 +45,13 @@ module _ (number : ℕ) (line : List ℕ) where
     unfolding replyTo cubeReply
     malformed-reply m = rw (lt-leb number 1 later, sym e, m)
 
-    cube-reply : (k c y z : ℤ) (q : Cube) → l ≡ Given k c q → y ≡ k → z ≡ c → (r : Choice) → chosen r ≡ choiceOf y z q → replyTo number line ≡ choiceReply (chosen r)
+    cube-reply : (k c y z : ℤ) (q : Cube) → l ≡ Given k c q → y ≡ k → z ≡ c → (r : Answer) → said r ≡ answerOf y z q → replyTo number line ≡ choiceReply (said r)
     unfolding replyTo cubeReply
     cube-reply k c y z q g f h r s = rw (lt-leb number 1 later, sym e, g, s, f, h)
 
     -- a cube's line of the output is shorter than any line that is one
-    pub cube-answered : (k c y z : ℤ) (q : Cube) → l ≡ Given k c q → y ≡ k → z ≡ c → (r : Choice) → chosen r ≡ choiceOf y z q
-        → (xs : List ℕ) (at : ℕ) (ys : List ℕ) (i : ℕ) (over : Bool) → Answered number (choiceReply (chosen r)) 20 xs at ys i over
+    pub cube-answered : (k c y z : ℤ) (q : Cube) → l ≡ Given k c q → y ≡ k → z ≡ c → (r : Answer) → said r ≡ answerOf y z q
+        → (xs : List ℕ) (at : ℕ) (ys : List ℕ) (i : ℕ) (over : Bool) → Answered number (choiceReply (said r)) 20 xs at ys i over
         → Answered number (replyTo number line) (length line) xs at ys i over
     cube-answered k c y z q g f h r s xs at ys i over (place, (end, (text, (top, room)))) =
         let reply = cube-reply k c y z q g f h r s in

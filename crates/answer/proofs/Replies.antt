@@ -9,12 +9,18 @@ use mir.Val.{boolByte}
 use Rattle.cube.specs.declared.Refusal.{Refusal}
 use Rattle.cube.specs.Refusals.{refusalNumber}
 use Rattle.cube.proofs.Bounds.{bit-bound}
+use Rattle.notes.specs.declared.Notes.{Notes}
 use Rattle.tilings.specs.declared.Choice.{Choice}
-use Rattle.tilings.specs.declared.Choice.the-variants.{Empty, Untiled, Tiled, Refused}
+use Rattle.tilings.specs.declared.Choice.the-variants.{Empty, Untiled, Tiled}
+use Rattle.tilings.specs.declared.Counted.{Counted}
 use Rattle.tilings.specs.declared.Tiling.{Tiling}
-use Rattle.tilings.specs.Answers.{chosen}
+use Rattle.tilings.specs.Plan.{reach}
+use Rattle.tilings.specs.Answers.{chosen, reached}
+use Rattle.choice.specs.declared.Answer.{Answer}
+use Rattle.choice.specs.declared.Answer.the-variants.{Chosen, Refused}
+use Rattle.choice.specs.Choice.{said}
 use Rattle.put.specs.Placed.{placed}
-use Rattle.answer.specs.Answer.{Reply, answer, refusal, fields, refusedLine, choiceReply, printed, ends}
+use Rattle.answer.specs.Answer.{Reply, answer, refusal, fields, choiceLine, refusedLine, choiceReply, printed, ends}
 
 -- what `print_choice` and `answer_line` promise, with the room of a line that is no refusal
 abbrev pub Answered : ℕ → Reply → ℕ → List ℕ → ℕ → List ℕ → ℕ → Bool → Type 0
@@ -36,18 +42,29 @@ module _ (number : ℕ) (reply : Reply) (xs : List ℕ) (at : ℕ) (ys : List �
   pub fields-answer : (text : List ℕ) (i : ℕ) → reply ≡ answer text → ((i ≡ at + length text) × (i ≤ at + 20)) × (ys ≡ placed xs at text) → (r ≡ i) × (over ≡ false) → Answered number reply 20 xs at ys r over
   fields-answer text i e p o = answer-put 20 text i e p o (let h = p .0 .1 in omega arith)
 
-pub empty-reply : (r : Choice) → r ≡ Empty → choiceReply (chosen r) ≡ answer (fields 0 0 0 0 0)
-unfolding choiceReply
-empty-reply r e = rw e
+-- the line of a choice
+module _ (m : Notes) (r : Choice) where
+  pub empty-line : r ≡ Empty → choiceLine (reach (chosen r) m) ≡ fields 0 0 0 0 0
+  unfolding choiceLine
+  empty-line e = rw e
 
-pub untiled-reply : (r : Choice) (c sub : ℕ) → r ≡ Untiled c sub → choiceReply (chosen r) ≡ answer (fields 255 c sub 0 0)
-unfolding choiceReply
-untiled-reply r c sub e = rw e
+  pub untiled-line : (c sub : ℕ) → r ≡ Untiled c sub → choiceLine (reach (chosen r) m) ≡ fields 255 c sub 0 0
+  unfolding choiceLine
+  untiled-line c sub e = rw e
 
-pub tiled-reply : (r : Choice) (t : Tiling) → r ≡ Tiled t → choiceReply (chosen r) ≡ answer (fields (t .code) (t .row) (t .column) (boolByte (t .centre)) (t .notes .unsettled))
-unfolding choiceReply
-tiled-reply r t e = rw (e, bit-bound (t .centre) .1)
+  pub tiled-line : (t : Tiling) → r ≡ Tiled t → choiceLine (reach (chosen r) m) ≡ fields (t .code) (t .row) (t .column) (boolByte (t .centre)) (m .unsettled)
+  unfolding choiceLine
+  tiled-line t e = rw (e, bit-bound (t .centre) .1)
 
-pub refused-reply : (r : Choice) (why : Refusal) (n : ℕ) → r ≡ Refused why → n ≡ refusalNumber why → choiceReply (chosen r) ≡ refusal n
+pub line-put : (line text xs : List ℕ) (at : ℕ) (ys : List ℕ) (i : ℕ) → line ≡ text → ((i ≡ at + length text) × (i ≤ at + 20)) × (ys ≡ placed xs at text)
+    → ((i ≡ at + length line) × (i ≤ at + 20)) × (ys ≡ placed xs at line)
+line-put line text xs at ys i e p = rw e p
+
+-- the reply of an answer
+pub made-reply : (a : Answer) (r : Counted) → a ≡ Chosen r → choiceReply (said a) ≡ answer (choiceLine (reached r))
 unfolding choiceReply
-refused-reply r why n e f = rw (e, f)
+made-reply a r e = rw e
+
+pub refused-reply : (a : Answer) (why : Refusal) (n : ℕ) → a ≡ Refused why → n ≡ refusalNumber why → choiceReply (said a) ≡ refusal n
+unfolding choiceReply
+refused-reply a why n e f = rw (e, f)

@@ -7,12 +7,20 @@ use Rattle.binary32.specs.Numbers.{plusZero}
 use Rattle.face.specs.Face as Face
 use Rattle.edge.specs.Edge.{rising, beyond, crossed, blank, one, two}
 use Rattle.edge.specs.Edge as Edge
-use Rattle.tilings.specs.Plan.{empty, noTiling, tiling, refused}
+use Rattle.notes.specs.Notes.{noNotes}
+use Rattle.tilings.specs.Plan.{empty, noTiling, tiling, reach}
+use Rattle.choice.specs.Choice.{made, refused}
 use Rattle.list.specs.Lists.{done, refusedAt}
-use Rattle.mc33_c.specs.Answers.{choiceNumbers, faceNumbers, readingNumbers, edgeNumbers, outcomeNumbers}
+use Rattle.mc33_c.specs.Answers.{reachedNumbers, choiceNumbers, faceNumbers, readingNumbers, edgeNumbers, outcomeNumbers}
 
 choices : map choiceNumbers
-    (empty ∷ noTiling 1 5 ∷ tiling 33 11 7 true (record { unsettled = 3 }) ∷ tiling 32 11 7 false (record { unsettled = 2 }) ∷ refused 2 ∷ refused 3 ∷ [])
+    (made (reach empty noNotes)
+    ∷ made (reach (noTiling 1 5) noNotes)
+    ∷ made (reach (tiling 33 11 7 true) (record { unsettled = 3 }))
+    ∷ made (reach (tiling 32 11 7 false) (record { unsettled = 2 }))
+    ∷ refused 2
+    ∷ refused 3
+    ∷ [])
     ≡ record { refusal = 0; code = 0; row = 0; column = 0; centre = 0; unsettled = 0 }
     ∷ record { refusal = 0; code = 255; row = 1; column = 5; centre = 0; unsettled = 0 }
     ∷ record { refusal = 0; code = 33; row = 11; column = 7; centre = 1; unsettled = 3 }
@@ -20,7 +28,7 @@ choices : map choiceNumbers
     ∷ record { refusal = 2; code = 0; row = 0; column = 0; centre = 0; unsettled = 0 }
     ∷ record { refusal = 3; code = 0; row = 0; column = 0; centre = 0; unsettled = 0 }
     ∷ []
-unfolding choiceNumbers
+unfolding choiceNumbers reachedNumbers
 choices = refl
 
 faces : map faceNumbers (Face.answer true ∷ Face.answer false ∷ Face.refused 4 ∷ Face.refused 3 ∷ [])

@@ -18,10 +18,9 @@ use Rattle.edge.specs.declared.EdgeAnswer.{EdgeAnswer}
 use Rattle.edge.specs.declared.EdgeAnswer.the-variants as Edge
 use Rattle.edge.specs.Edge as Edges
 use Rattle.edge.specs.Edge.{told, edgeReadingOf}
-use Rattle.tilings.specs.declared.Choice.{Choice}
-use Rattle.tilings.specs.Plan.{refused}
-use Rattle.tilings.specs.Answers.{chosen}
-use Rattle.choice.specs.Choice.{choiceOf}
+use Rattle.choice.specs.declared.Answer.{Answer}
+use Rattle.choice.specs.Choice as Choice
+use Rattle.choice.specs.Choice.{refused, answerOf}
 use Rattle.list.specs.declared.Outcome.{Outcome}
 use Rattle.list.specs.declared.Outcome.the-variants as List
 use Rattle.list.specs.Results.{result}
@@ -57,7 +56,7 @@ module _ (q : Cube) (z y : ℤ) (e : z ≡ y) (r : EdgeAnswer) (s : Edges.said r
   unfolding edgeNumbers ofBits
   edge-refused why f n g = rw (sym e, sym s, f, g)
 
-pub chose : (z y c d : ℤ) → z ≡ y → c ≡ d → (q : Cube) (r : Choice) → chosen r ≡ choiceOf z c q → (m : Mc33Choice) → m ≡ choiceNumbers (chosen r) → m ≡ choiceNumbers (choiceOf y d q)
+pub chose : (z y c d : ℤ) → z ≡ y → c ≡ d → (q : Cube) (r : Answer) → Choice.said r ≡ answerOf z c q → (m : Mc33Choice) → m ≡ choiceNumbers (Choice.said r) → m ≡ choiceNumbers (answerOf y d q)
 chose z y c d e f q r s m g = rw (g, s, e, f)
 
 module _ (o : Outcome) where

@@ -13,7 +13,7 @@ same-length : tie.Need-same-length
 same-length c = search needs
 
 returns : tie.Need-returns
-returns c = rw (c .before .before .before .before .number .ensures) at (c .before .before .put-refused .ensures)
+returns c = rw (c .before .before .before .before .number .ensures .0) at (c .before .before .put-refused .ensures)
 
 pub put-malformed-spec : {M : Type 1} → statement M
 put-malformed-spec = tie.close (tie.spec number-requires put-refused-requires same-length returns)

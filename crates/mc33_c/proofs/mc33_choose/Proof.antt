@@ -1,4 +1,4 @@
--- `mc33_c::mc33_choose` gives the numbers of `choiceOf`.
+-- `mc33_c::mc33_choose` gives the numbers of `answerOf`.
 use borrow.Author.Needs.{needs}
 use mir.Syntax.{w8}
 use mir.ValLaws.{toZ-ofZ}

@@ -25,7 +25,7 @@ returns : tie.Need-returns
 returns c = edge-read _ _ _ (toZ-ofZ w8 _ (c .before .before .before .before .before .fits .edge)) _ (c .before .before .before .before .interior-ambiguity-verification .ensures) _ (c .before .before .r .given .1) _ (c .reading-numbers .ensures)
 
 returns-2 : tie.Need-returns-2
-returns-2 c = edge-refused _ _ _ (toZ-ofZ w8 _ (c .before .before .before .before .before .fits .edge)) _ (c .before .before .before .before .interior-ambiguity-verification .ensures) _ (c .before .before .why .given .1) _ (c .number .ensures)
+returns-2 c = edge-refused _ _ _ (toZ-ofZ w8 _ (c .before .before .before .before .before .fits .edge)) _ (c .before .before .before .before .interior-ambiguity-verification .ensures) _ (c .before .before .why .given .1) _ (c .number .ensures .0)
 
 pub mc33-edge-spec : {M : Type 1} → statement M
 mc33-edge-spec =

@@ -25,7 +25,7 @@ returns : tie.Need-returns
 returns c = face-answered _ _ _ (toZ-ofZ w8 _ (c .before .before .before .before .fits .face)) _ (c .before .before .before .test-face .ensures .0) _ (c .before .yes .given .1)
 
 returns-2 : tie.Need-returns-2
-returns-2 c = face-refused _ _ _ (toZ-ofZ w8 _ (c .before .before .before .before .before .fits .face)) _ (c .before .before .before .before .test-face .ensures .0) _ (c .before .before .why .given .1) _ (c .number .ensures)
+returns-2 c = face-refused _ _ _ (toZ-ofZ w8 _ (c .before .before .before .before .before .fits .face)) _ (c .before .before .before .before .test-face .ensures .0) _ (c .before .before .why .given .1) _ (c .number .ensures .0)
 
 pub mc33-face-spec : {M : Type 1} → statement M
 mc33-face-spec =

@@ -8,7 +8,7 @@ number-requires : tie.Need-number-requires
 number-requires c κs = search needs
 
 returns : tie.Need-returns
-returns c = no-choice (c .before .args .why) _ (c .number .ensures)
+returns c = no-choice (c .before .args .why) _ (c .number .ensures .0)
 
 pub no-choice-spec : {M : Type 1} → statement M
 no-choice-spec = tie.close (tie.spec number-requires returns)
