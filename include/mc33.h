@@ -37,10 +37,10 @@ extern "C" {
 #endif
 
 /* The version of this header. The major number moves where a caller that was built before would read something
- * wrongly: the bytes of a row, the layout of a record, the meaning of a number; the shared object's name has it, as
- * libmc33.so.1. The minor number moves where something is added: a function, or a refusal's number, so keep a
- * `default` in a switch over refusals. */
-#define MC33_VERSION_MAJOR 1
+ * wrongly (the bytes of a row, the layout of a record, the meaning of a number) or would no longer build, since a name
+ * is gone; the shared object's name has it, as libmc33.so.2. The minor number moves where something is added: a
+ * function, or a refusal's number, so keep a `default` in a switch over refusals. */
+#define MC33_VERSION_MAJOR 2
 #define MC33_VERSION_MINOR 0
 #define MC33_VERSION (1000 * MC33_VERSION_MAJOR + MC33_VERSION_MINOR)
 
@@ -48,7 +48,7 @@ extern "C" {
 uint32_t mc33_version(void);
 
 /* Refusals. Order: a choice 1, 2, 3; a face test 4, 3; an edge reading 5, 3; a list 6, 7, then its cubes from the
- * first, each 1, 2, 3. 8 is the text program's, and 9 is proved never to be given. mc33_refusal_text has the words. */
+ * first, each 1, 2, 3. 8 is the text program's, and there is no 9. mc33_refusal_text has the words. */
 enum {
     MC33_ANSWERED = 0,
     MC33_NO_CASE = 1,          /* the case is below 0 or above 14 */
@@ -58,8 +58,7 @@ enum {
     MC33_NO_EDGE = 5,          /* the edge number is not 0..11 */
     MC33_UNEVEN_LISTS = 6,     /* a list without 8 corner values and 2 numbers a cube */
     MC33_NO_ROOM = 7,          /* a list with fewer than MC33_ROW_BYTES answer bytes a cube */
-    MC33_MALFORMED = 8,        /* the text program: a line that is malformed */
-    MC33_OUTSIDE_TABLE = 9     /* an inner index outside its table */
+    MC33_MALFORMED = 8         /* the text program: a line that is malformed */
 };
 
 /* Codes of a choice that is no tiling; tilings have 1 to MC33_TILINGS. */
@@ -144,7 +143,6 @@ static inline const char *mc33_refusal_text(uint64_t refusal)
     case MC33_UNEVEN_LISTS: return "the list has not 8 corner values and 2 numbers a cube";
     case MC33_NO_ROOM: return "the list has fewer than 4 answer bytes a cube";
     case MC33_MALFORMED: return "the line is malformed";
-    case MC33_OUTSIDE_TABLE: return "an inner index is outside its table";
     default: return "a refusal that this version does not know";
     }
 }

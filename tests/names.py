@@ -57,10 +57,16 @@ def configurations():
 
 
 def refusals():
-    wanted = quoted(within(header, "mc33_refusal_text(uint64_t refusal)", "default:"))[1:]
-    words = dict(re.findall(r'=> \((\d+), "([^"]*)"\)', rust))
-    hold("refusals, Rust", [words.get(str(number)) for number in range(1, len(words) + 1)], wanted)
-    hold("refusals, Python", [mc33.REFUSALS.get(number) for number in range(1, len(mc33.REFUSALS) + 1)], wanted)
+    numbered = dict(re.findall(r"(MC33_\w+) = (\d+)", within(header, "MC33_ANSWERED = 0,", "};")))
+    texts = dict(re.findall(r'case (MC33_\w+): return "([^"]*)";', header))
+    wanted = {int(number): texts.get(name) for name, number in numbered.items()}
+    words = re.findall(r'=> \((\d+), "([^"]*)"\)', rust)
+    hold("refusals, Rust", {int(number): text for number, text in words}, wanted)
+    hold("refusals, Python", mc33.REFUSALS, wanted)
+    listed = numbers("".join(re.findall(r"^\| \d+ ", within(using, "| number | when |", "\n\n"), re.M)))
+    hold("refusals, USING", listed, sorted(wanted))
+    # Document 02, 'Change 12': 9 is not given again.
+    hold("refusals, no 9", [number for number in wanted if number == 9], [])
 
 
 tilings()

@@ -1,4 +1,4 @@
-"""The refusals, by document 01's numbers."""
+"""The refusals, by document 01's numbers. There is no 9."""
 from __future__ import annotations
 
 from typing import Dict, Optional
@@ -15,7 +15,6 @@ REFUSALS: Dict[int, str] = {
     6: "the list has not 8 corner values and 2 numbers a cube",
     7: f"the list has fewer than {ROW} answer bytes a cube",
     8: "the line is malformed",
-    9: "an inner index is outside its table",
 }
 # These are of a list as a whole: their place is 0 and names no cube.
 OF_THE_WHOLE = (6, 7)

@@ -28,7 +28,7 @@ class Package(unittest.TestCase):
             self.assertTrue(hasattr(mc33, name), name)
         public = {name for name, value in vars(mc33).items() if name[0] != "_" and not inspect.ismodule(value)}
         self.assertEqual(public, set(mc33.__all__))
-        self.assertEqual(mc33.__version__, "1.0.0")
+        self.assertEqual(mc33.__version__, "2.0.0")
 
     def test_hints_and_words(self):
         self.assertTrue((Path(mc33.__file__).parent / "py.typed").exists())
@@ -61,16 +61,16 @@ class Library(unittest.TestCase):
 
     def test_named_by_the_environment(self):
         shutil.copy(BUILT, self.folder / "copy.so")
-        self.assertEqual(self.said(self.folder / "copy.so"), "1000")
-        self.assertEqual(self.said("copy.so", cwd=self.folder), "1000")
-        self.assertEqual(self.said(""), "1000")
+        self.assertEqual(self.said(self.folder / "copy.so"), "2000")
+        self.assertEqual(self.said("copy.so", cwd=self.folder), "2000")
+        self.assertEqual(self.said(""), "2000")
 
     def test_installed(self):
         shutil.copytree(Path(mc33.__file__).parent, self.folder / "mc33")
         shutil.copy(BUILT, self.folder / INSTALLED)
         copy = {"path": self.folder, "cwd": self.folder}
-        self.assertEqual(self.said("", **copy, LD_LIBRARY_PATH=str(self.folder)), "1000")
-        self.assertRegex(self.said("", **copy), r"libmc33\.so\.1.*\./install\.sh.*MC33_LIBRARY")
+        self.assertEqual(self.said("", **copy, LD_LIBRARY_PATH=str(self.folder)), "2000")
+        self.assertRegex(self.said("", **copy), r"libmc33\.so\.2.*\./install\.sh.*MC33_LIBRARY")
 
     def test_missing(self):
         for name in (self.folder / "none.so", "none.so"):

@@ -153,7 +153,7 @@ class Roots(unittest.TestCase):
         self.assertEqual({bits: mc33.root_bits(bits) for bits in pairs}, pairs)
 
     def test_version(self):
-        self.assertEqual(mc33.version() // 1000, 1)
+        self.assertEqual(mc33.version() // 1000, 2)
 
 
 class Unfit(unittest.TestCase):

@@ -7,7 +7,7 @@
 /// use mc33::Refusal::{self, *};
 /// let known = |refusal: Refusal| match refusal {
 ///     NoCase | NoConfiguration | NotFinite | NoFace | NoEdge | UnevenLists | NoRoom => true,
-///     Malformed | OutsideTable | Unknown { .. } => true,
+///     Malformed | Unknown { .. } => true,
 ///     _ => false,
 /// };
 /// assert!(known(NoCase));

@@ -38,7 +38,7 @@ pub use refusal::{ListRefused, Refusal};
 use library::{Mc33Choice, Mc33Edge, Mc33Face, Mc33Outcome};
 
 /// The version of the library that this crate was written for: (major, minor).
-pub const VERSION: (u32, u32) = (1, 0);
+pub const VERSION: (u32, u32) = (2, 0);
 
 /// The version of the library that is linked: (major, minor).
 ///
@@ -95,7 +95,7 @@ fn choice_said(said: Mc33Choice) -> Result<Choice, Refusal> {
         unsettled,
         ..
     } = said;
-    choice::choice_of(code, row, column, centre, unsettled).ok_or(Refusal::OutsideTable)
+    choice::choice_of(code, row, column, centre, unsettled).ok_or(refusal::NO_NAME)
 }
 
 /// How many configurations a case has, from 0 on: 0 for case 0, which has -1 alone, and for a number that is no case.
@@ -131,7 +131,7 @@ fn face_said(said: Mc33Face) -> Result<bool, Refusal> {
     match said.answer {
         0 => Ok(false),
         1 => Ok(true),
-        _ => Err(Refusal::OutsideTable),
+        _ => Err(refusal::NO_NAME),
     }
 }
 
@@ -181,7 +181,7 @@ fn edge_said(said: Mc33Edge) -> Result<Reading, Refusal> {
         2 => Ok(Reading::Beyond { t }),
         3 => Ok(Reading::Crossed { t, product }),
         4 => Ok(Reading::Blank),
-        _ => Err(Refusal::OutsideTable),
+        _ => Err(refusal::NO_NAME),
     }
 }
 

@@ -22,15 +22,12 @@ pub enum Refusal {
     NoRoom,
     /// 8: a malformed line of the text program's input; no function of this crate gives it.
     Malformed,
-    /// 9: an inner index is outside its table. The library is proved never to give it. This crate does where the
-    /// library's answer is none that it has a name for, as may be where their major versions differ: see
-    /// [`version`](crate::version).
-    OutsideTable,
-    /// A number that this version of the crate has no name for. Ask [`Refusal::number`] for it and not a pattern,
+    /// A refusal, or an answer, that this version of the crate has no name for, as may be where the library's major
+    /// version is another: see [`version`](crate::version). Ask [`Refusal::number`] for its number and not a pattern,
     /// since a later version may name it.
     #[non_exhaustive]
     Unknown {
-        /// The number that the library gave.
+        /// The number that the library gave: 0 where it answered.
         number: u64,
     },
 }
@@ -56,11 +53,13 @@ impl Refusal {
             UnevenLists => (6, "the list has not 8 corner values and 2 numbers a cube"),
             NoRoom => (7, "the list has fewer than 4 answer bytes a cube"),
             Malformed => (8, "the line is malformed"),
-            OutsideTable => (9, "an inner index is outside its table"),
             Unknown { number } => (number, "this version of the crate has no name for it"),
         }
     }
 }
+
+/// The library answered, and the crate has no name for what it said.
+pub const NO_NAME: Refusal = Refusal::Unknown { number: 0 };
 
 /// `Ok` for 0, or the refusal.
 pub fn answered(number: u64) -> Result<(), Refusal> {
@@ -75,7 +74,6 @@ pub fn answered(number: u64) -> Result<(), Refusal> {
         6 => UnevenLists,
         7 => NoRoom,
         8 => Malformed,
-        9 => OutsideTable,
         _ => Unknown { number },
     })
 }

@@ -1,4 +1,5 @@
 //! What the library may say, named: each number that has a name, and those that have none.
+use super::refusal::NO_NAME;
 use super::*;
 
 const PLAIN: Mc33Choice = Mc33Choice {
@@ -95,7 +96,7 @@ fn a_choice_without_a_name_is_refused() {
     centre.centre = 2;
     unsettled.unsettled = 4;
     for said in [code, centre, unsettled] {
-        assert_eq!(choice_said(said), Err(Refusal::OutsideTable));
+        assert_eq!(choice_said(said), Err(NO_NAME));
     }
 }
 
@@ -103,7 +104,7 @@ fn a_choice_without_a_name_is_refused() {
 fn a_face_answer_without_a_name_is_refused() {
     let said = |answer| face_said(Mc33Face { refusal: 0, answer });
     assert_eq!([0, 1].map(said), [Ok(false), Ok(true)]);
-    assert_eq!(said(2), Err(Refusal::OutsideTable));
+    assert_eq!(said(2), Err(NO_NAME));
 }
 
 #[test]
@@ -127,7 +128,7 @@ fn a_reading_without_a_name_is_refused() {
         Reading::Blank,
     ];
     assert_eq!([1, 2, 3, 4].map(said), readings.map(Ok));
-    assert_eq!([0, 5, 255].map(said), [Err(Refusal::OutsideTable); 3]);
+    assert_eq!([0, 5, 255].map(said), [Err(NO_NAME); 3]);
 }
 
 #[test]

@@ -13,7 +13,6 @@ use Rattle.notes.specs.declared.Notes.{Notes}
 use Rattle.tilings.specs.declared.Choice.{Choice}
 use Rattle.tilings.specs.declared.Choice.the-variants.{Empty, Untiled, Tiled}
 use Rattle.tilings.specs.declared.Counted.{Counted}
-use Rattle.tilings.specs.declared.Tiling.{Tiling}
 use Rattle.tilings.specs.Plan.{reach}
 use Rattle.tilings.specs.Answers.{chosen, reached}
 use Rattle.choice.specs.declared.Answer.{Answer}
@@ -52,9 +51,10 @@ module _ (m : Notes) (r : Choice) where
   unfolding choiceLine
   untiled-line c sub e = rw e
 
-  pub tiled-line : (t : Tiling) → r ≡ Tiled t → choiceLine (reach (chosen r) m) ≡ fields (t .code) (t .row) (t .column) (boolByte (t .centre)) (m .unsettled)
+  pub tiled-line : (code row column : ℕ) (centre : Bool) → r ≡ Tiled code row column centre
+      → choiceLine (reach (chosen r) m) ≡ fields code row column (boolByte centre) (m .unsettled)
   unfolding choiceLine
-  tiled-line t e = rw (e, bit-bound (t .centre) .1)
+  tiled-line code row column centre e = rw (e, bit-bound centre .1)
 
 pub line-put : (line text xs : List ℕ) (at : ℕ) (ys : List ℕ) (i : ℕ) → line ≡ text → ((i ≡ at + length text) × (i ≤ at + 20)) × (ys ≡ placed xs at text)
     → ((i ≡ at + length line) × (i ≤ at + 20)) × (ys ≡ placed xs at line)

@@ -92,11 +92,11 @@ fn put_choice(r: Counted, out: &mut [u8], at: usize) -> usize
     match choice {
         Choice::Empty => put_fields(0, 0, 0, 0, 0, out, at),
         Choice::Untiled(c, sub) => put_fields(255, c, sub, 0, 0, out, at),
-        Choice::Tiled(t) => put_fields(
-            t.code,
-            t.row,
-            t.column,
-            t.centre as u8,
+        Choice::Tiled(code, row, column, centre) => put_fields(
+            code,
+            row,
+            column,
+            centre as u8,
             r.notes.unsettled,
             out,
             at,

@@ -1,9 +1,11 @@
 -- The diagonal pick as code makes it: the four pairs, their set as a number, and the edge that is its digit. Assumes nothing.
-use mathlib.Core.Path.{_≡_, refl, sym, ap, subst}
+use mathlib.Core.Path.{_≡_, refl, sym, subst}
 use mathlib.Core.Bool.{Bool, true, false, cond, _&&_}
 use mathlib.Core.List.{List, [], _∷_}
 use Prim.Native.Nat.{ℕ, zero, suc, _+_, _*_, _/_, _%_, _^_, _≤_, _<_}
+use native.Mathlib.Nat.{not-suc-le-zero}
 use native.Mathlib.Omega.{arith}
+use borrow.Author.Tests.{lt-ltb, le-ltb, ne-eqb}
 use lib.Dec.{T, ltb, eqb, eqb→eq, ltb→lt, lt→ltb}
 use lib.IntN.{ℤ, pos}
 use lib.ListN.{getD}
@@ -19,7 +21,7 @@ use Rattle.cube.specs.Corners.{corners, valueAt, cornerOf}
 use Rattle.cube.proofs.Table.{allUnder, under}
 use Rattle.edge.specs.Edge.{isEdge}
 use Rattle.interior.specs.declared.Diagonals.{Diagonals}
-use Rattle.interior.specs.Pick.{Diagonal, diagonals, lastMatch, pickWith, pickBy}
+use Rattle.interior.specs.Pick.{Diagonal, diagonals, lastMatch, IsAmbiguousFace, pickWith, pickBy}
 use Rattle.interior.specs.Diagonals.{diagonalsOf, heldBy, setOf, edgesOf}
 
 -- ---- the four pairs: s comes as a float made of the bits of an i8
@@ -39,10 +41,20 @@ pub bounded : (d : Diagonals) (k l : ℕ) → (k ≤ 7) × (k ≡ numberOf (d .f
 unfolding setOf numberOf
 bounded d k l (h, e) (i, f) = (omega arith, omega (arith, e, f))
 
--- ---- the edges by set: past the first five faces there is the sixth alone
-pub last-edges : (n : ℕ) → n ≤ 6 → 6 ≤ n → 0xbbbbbbbbaaaa9980 ≡ edgesOf n
-unfolding edgesOf
-last-edges n h l = ap edgesOf {x = 6} {y = n} (omega (arith, h, l))
+-- ---- the edges by set: faces 5 and 6, then 1 and 3, then 2 and 4
+module _ (n : ℕ) where
+  pub high-edges : 4 < n → 0xbbbbbbbbaaaa9980 ≡ edgesOf n
+  unfolding edgesOf
+  high-edges h = rw (lt-ltb 4 n h)
+
+  module _ (l : n ≤ 4) where
+    pub odd-edges : n % 2 ≡ 1 → 0x7777666677775450 ≡ edgesOf n
+    unfolding edgesOf
+    odd-edges e = rw (le-ltb 4 n l, e)
+
+    pub even-edges : (n % 2 ≡ 1 → ⊥) → 0x3232323231313030 ≡ edgesOf n
+    unfolding edgesOf
+    even-edges e = rw (le-ltb 4 n l, ne-eqb (n % 2) 1 e)
 
 -- the digit at a set is the edge of the last pair that matches: one test over all sets and faces
 module _ (d : Diagonals) (n : ℕ) where
@@ -55,7 +67,7 @@ module _ (d : Diagonals) (n : ℕ) where
 abbrev right : Bool → Bool → Bool → Bool → Bool
 right a b c e =
     let d : Diagonals = record { from0 = a; from1 = b; from2 = c; from3 = e } in
-    allUnder 7 (λ n. eqb (digit d n) (last d n))
+    allUnder 6 (λ n. eqb (digit d (suc n)) (last d (suc n)))
 
 -- at both answers
 abbrev always : (Bool → Bool) → Bool
@@ -72,8 +84,10 @@ all-right = tt
 right-at : (a b c e : Bool) → T (right a b c e)
 right-at a b c e = each (right a b c) (each (λ c. always (right a b c)) (each (λ b. always (λ c. always (right a b c))) (each (λ a. always (λ b. always (λ c. always (right a b c)))) all-right a) b) c) e
 
-last-digit : (d : Diagonals) (n : ℕ) → n ≤ 6 → digit d n ≡ last d n
-last-digit d n h = eqb→eq (digit d n) (last d n) (under 7 (λ n. eqb (digit d n) (last d n)) (right-at (d .from0) (d .from1) (d .from2) (d .from3)) n (omega arith))
+last-digit : (d : Diagonals) (n : ℕ) → IsAmbiguousFace n → digit d n ≡ last d n
+last-digit d zero (h, l) = absurd (not-suc-le-zero h)
+last-digit d (suc n) (h, l) =
+    eqb→eq (digit d (suc n)) (last d (suc n)) (under 6 (λ n. eqb (digit d (suc n)) (last d (suc n))) (right-at (d .from0) (d .from1) (d .from2) (d .from3)) n (omega (arith, l)))
 
 -- ---- whatever matches, an edge is picked: one of the pairs' or edge 0
 abbrev allEdges : List Diagonal → Bool
@@ -101,11 +115,11 @@ unfolding pickWith
 an-edge matches n h = last-below matches 0 (getD diagonals n []) (omega arith) (under 7 (λ n. allEdges (getD diagonals n [])) all-edges n (omega (arith, h)))
 
 -- ---- the pick
-module _ (d : Diagonals) (n : ℕ) (h : n ≤ 6) where
+module _ (d : Diagonals) (n : ℕ) (h : IsAmbiguousFace n) where
   pub edge-picked : (es set : ℕ) → es ≡ edgesOf n → (set ≤ 15) × (set ≡ setOf d)
       → (toZ w8 (es / 2 ^ (4 * set) % 16) ≡ pos (pickWith (heldBy d) n)) × T (isEdge (toZ w8 (es / 2 ^ (4 * set) % 16)))
   unfolding pickWith
-  edge-picked es set ee (l, se) = (e, subst (λ (z : ℤ). T (isEdge z)) (sym e) (lt→ltb (pickWith (heldBy d) n) 12 (an-edge (heldBy d) n h)))
+  edge-picked es set ee (l, se) = (e, subst (λ (z : ℤ). T (isEdge z)) (sym e) (lt→ltb (pickWith (heldBy d) n) 12 (an-edge (heldBy d) n (h .1))))
     where
       small : digit d n < 128
       small = omega arith

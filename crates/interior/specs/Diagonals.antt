@@ -1,7 +1,8 @@
 -- How the code of the diagonal pick keeps the four pairs, each by its first corner. Definitions only.
-use Prim.Native.Nat.{ℕ}
-use mathlib.Core.Bool.{Bool, false}
+use Prim.Native.Nat.{ℕ, _%_}
+use mathlib.Core.Bool.{Bool, false, cond}
 use mathlib.Core.List.{[], _∷_}
+use lib.Dec.{ltb, eqb}
 use lib.IntN.{ℤ}
 use lib.ListN.{getD}
 use Rattle.binary32.specs.Numbers.{f32}
@@ -27,17 +28,6 @@ heldBy d p = getD (d .from0 ∷ d .from1 ∷ d .from2 ∷ d .from3 ∷ []) (p .o
 unfoldable pub setOf : Diagonals → ℕ
 setOf d = numberOf (d .from0 ∷ d .from1 ∷ d .from2 ∷ d .from3 ∷ [])
 
--- the edges that a face's pairs lead to, a hex digit for each set; by ambiguous face, and there is no face 0
+-- the edges that a face's pairs lead to, a hex digit for each set: faces 5 and 6, then 1 and 3, then 2 and 4
 unfoldable pub edgesOf : ℕ → ℕ
-edgesOf n =
-    getD
-    (0
-    ∷ 0x7777666677775450
-    ∷ 0x3232323231313030
-    ∷ 0x7777666677775450
-    ∷ 0x3232323231313030
-    ∷ 0xbbbbbbbbaaaa9980
-    ∷ 0xbbbbbbbbaaaa9980
-    ∷ [])
-    n
-    0
+edgesOf n = cond (ltb 4 n) 0xbbbbbbbbaaaa9980 (cond (eqb (n % 2) 1) 0x7777666677775450 0x3232323231313030)

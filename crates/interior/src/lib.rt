@@ -59,19 +59,18 @@ fn set_of(d: Diagonals) -> u32
     three(d.from0, d.from1, d.from2) + 8 * bit(d.from3)
 }
 
-// The edges that a face's pairs lead to: the hex digit at place k is the edge for the set k.
+// The edges that a face's pairs lead to: the hex digit at place k is the edge for the set k. Faces 5 and 6, then 1
+// and 3, then 2 and 4.
 fn edges(n: u32) -> u64
-    requires { ⌜ IsAmbiguousFace n ⌝ }
     ensures { λ r. ⌜ r ≡ edgesOf n ⌝ }
 {
-    match n {
-        1 => 0x7777_6666_7777_5450,
-        2 => 0x3232_3232_3131_3030,
-        3 => 0x7777_6666_7777_5450,
-        4 => 0x3232_3232_3131_3030,
-        5 => 0xbbbb_bbbb_aaaa_9980,
-        _ => 0xbbbb_bbbb_aaaa_9980,
+    if 4 < n {
+        return 0xbbbb_bbbb_aaaa_9980;
     }
+    if n % 2 == 1 {
+        return 0x7777_6666_7777_5450;
+    }
+    0x3232_3232_3131_3030
 }
 
 // The diagonal pick, from the pairs that match: with those of `diagonals_of`, document 01's.

@@ -1,5 +1,6 @@
 -- Rows of four bytes: a choice's row, a row put by four stores, and one row more. Assumes nothing.
 use mathlib.Core.Path.{_≡_, refl, sym, ap, _∙_, subst}
+use mathlib.Core.Bool.{Bool}
 use mathlib.Core.List.{List, [], _∷_}
 use Prim.Native.Nat.{ℕ, zero, suc, _+_, _*_, _≤_}
 use native.Mathlib.Numerals.{add-one}
@@ -12,7 +13,6 @@ use Rattle.cube.proofs.Bounds.{bit-bound}
 use Rattle.notes.specs.declared.Notes.{Notes}
 use Rattle.tilings.specs.declared.Choice.{Choice}
 use Rattle.tilings.specs.declared.Choice.the-variants.{Tiled}
-use Rattle.tilings.specs.declared.Tiling.{Tiling}
 use Rattle.tilings.specs.Plan.{Chosen, empty, noTiling, tiling, Reached, reach}
 use Rattle.tilings.specs.Answers.{chosen}
 use Rattle.put.specs.Placed.{placed}
@@ -26,13 +26,13 @@ module _ (m : Notes) where
   pub row-as : (r s : Row) → r ≡ s → (x y : Choice) → x ≡ y → bytesIn s ≡ bytesOf (reach (chosen y) m) → bytesIn r ≡ bytesOf (reach (chosen x) m)
   row-as r s e x y f g = ap bytesIn e ∙ g ∙ ap (λ (x : Choice). bytesOf (reach (chosen x) m)) (sym f)
 
-  pub row-tiled : (r : Row) (t : Tiling) (x : Choice) → x ≡ Tiled t
-      → r ≡ record { code = t .code; row = t .row; column = t .column; rest = boolByte (t .centre) + 2 * m .unsettled }
+  pub row-tiled : (r : Row) (code row column : ℕ) (centre : Bool) (x : Choice) → x ≡ Tiled code row column centre
+      → r ≡ record { code = code; row = row; column = column; rest = boolByte centre + 2 * m .unsettled }
       → bytesIn r ≡ bytesOf (reach (chosen x) m)
   unfolding bytesOf
-  row-tiled r t x f e =
-      row-as r (record { code = t .code; row = t .row; column = t .column; rest = boolByte (t .centre) + 2 * m .unsettled }) e x (Tiled t) f
-      (ap (λ (n : ℕ). t .code ∷ t .row ∷ t .column ∷ (n + 2 * m .unsettled) ∷ []) (bit-bound (t .centre) .1))
+  row-tiled r code row column centre x f e =
+      row-as r (record { code = code; row = row; column = column; rest = boolByte centre + 2 * m .unsettled }) e x (Tiled code row column centre) f
+      (ap (λ (n : ℕ). code ∷ row ∷ column ∷ (n + 2 * m .unsettled) ∷ []) (bit-bound centre .1))
 
 -- ---- four stores
 pub four-put : (xs : List ℕ) (at a b c d : ℕ) → at + 4 ≤ length xs

@@ -95,11 +95,11 @@ fn row_of(r: Counted) -> Row
     match choice {
         Choice::Empty => filled(0, 0, 0, 0),
         Choice::Untiled(c, sub) => filled(255, c, sub, 0),
-        Choice::Tiled(t) => filled(
-            t.code,
-            t.row,
-            t.column,
-            t.centre as u8 + 2 * r.notes.unsettled,
+        Choice::Tiled(code, row, column, centre) => filled(
+            code,
+            row,
+            column,
+            centre as u8 + 2 * r.notes.unsettled,
         ),
     }
 }

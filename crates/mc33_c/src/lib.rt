@@ -124,7 +124,13 @@ fn reached_numbers(r: Counted) -> Mc33Choice
     match choice {
         Choice::Empty => answered(0, 0, 0, false, 0),
         Choice::Untiled(c, sub) => answered(255, c, sub, false, 0),
-        Choice::Tiled(t) => answered(t.code, t.row, t.column, t.centre, r.notes.unsettled),
+        Choice::Tiled(code, row, column, centre) => answered(
+            code,
+            row,
+            column,
+            centre,
+            r.notes.unsettled,
+        ),
     }
 }
 

@@ -18,7 +18,7 @@ answersOf q = record { faces = faceOf q; insides = insideOf q; insides13 = case1
 abbrev pub chosen : Choice → Chosen
 chosen Empty = empty
 chosen (Untiled c sub) = noTiling c sub
-chosen (Tiled t) = tiling (t .code) (t .row) (t .column) (t .centre)
+chosen (Tiled code row column centre) = tiling code row column centre
 
 -- with what was counted
 abbrev pub reached : Counted → Reached

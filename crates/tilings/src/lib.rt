@@ -22,19 +22,12 @@ use interior::Side;
 use interior::Sight;
 use notes::Notes;
 
-// A tiling: its code, row and column, and whether it is drawn with the centre.
-pub struct Tiling {
-    pub code: u8,
-    pub row: u8,
-    pub column: u8,
-    pub centre: bool,
-}
-
-// `Untiled` has the configuration and the sub-configuration.
+// `Untiled` has the configuration and the sub-configuration; `Tiled` the code, row and column, and whether the
+// tiling is drawn with the centre.
 pub enum Choice {
     Empty,
     Untiled(u8, u8),
-    Tiled(Tiling),
+    Tiled(u8, u8, u8, bool),
 }
 
 // A choice, and what was counted on the way to it.
@@ -156,12 +149,7 @@ pub fn tile(code: u8, row: u8, column: u8, notes: Notes) -> Counted
     ensures { λ r. ⌜ reached r ≡ reach (tiling code row column (hasCentre code)) notes ⌝ }
 {
     Counted {
-        choice: Choice::Tiled(Tiling {
-            code: code,
-            row: row,
-            column: column,
-            centre: has_centre(code),
-        }),
+        choice: Choice::Tiled(code, row, column, has_centre(code)),
         notes: notes,
     }
 }

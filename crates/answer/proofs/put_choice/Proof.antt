@@ -41,7 +41,7 @@ same-length-3 : tie.Need-same-length-3
 same-length-3 c = search needs
 
 returns-3 : tie.Need-returns-3
-returns-3 c = line-put _ _ _ _ _ _ (tiled-line _ _ _ (c .before .before .before .before .before .before .choice2 .given .1)) (c .before .before .put-fields3 .ensures)
+returns-3 c = line-put _ _ _ _ _ _ (tiled-line _ _ _ _ _ _ (c .before .before .before .before .before .choice2 .given .1)) (c .before .before .put-fields3 .ensures)
 
 pub put-choice-spec : {M : Type 1} → statement M
 put-choice-spec =

@@ -23,7 +23,7 @@ cast-t9 : tie.Need-cast-t9
 cast-t9 c = search needs
 
 returns : tie.Need-returns
-returns c = edge-picked _ _ (c .before .before .pre .1) _ _ (c .before .edges .ensures) (c .set-of .ensures)
+returns c = edge-picked _ _ (c .before .before .pre) _ _ (c .before .edges .ensures) (c .set-of .ensures)
 
 pub interior-ambiguity-spec : {M : Type 1} → statement M
 interior-ambiguity-spec =

@@ -31,9 +31,9 @@ mul-filled c = search needs
 
 add-filled : tie.Need-add-filled
 add-filled c =
-    let t = c .before .before .before in
+    let t = c .before .before in
     let few = t .before .before .pre in
-    let bit = bit-bound (t .choice2 .given .0 .0 .centre) .0 in
+    let bit = bit-bound (t .choice2 .given .0 .1 .1 .1 .0) .0 in
     omega arith
 
 filled-requires-3 : tie.Need-filled-requires-3
@@ -48,7 +48,7 @@ unfolding bytesOf
 returns-2 c = row-as _ _ _ (c .filled2 .ensures) _ _ (c .before .before .choice .given .1) refl
 
 returns-3 : tie.Need-returns-3
-returns-3 c = row-tiled _ _ _ _ (c .before .before .before .before .choice2 .given .1) (c .filled3 .ensures)
+returns-3 c = row-tiled _ _ _ _ _ _ _ (c .before .before .before .choice2 .given .1) (c .filled3 .ensures)
 
 pub row-of-spec : {M : Type 1} → statement M
 row-of-spec =
