@@ -157,8 +157,8 @@ module _ (x y : ℤ) (f : Family) (fx : SFits w8 x) (fy : SFits w8 y) (e : kin f
       found : (a : Bool) (r : Reached) → b ≡ a → ifFinite a r ≡ ifFinite (allFinite q) r
       found a r h = ap (λ (d : Bool). ifFinite d r) (sym h ∙ finite)
 
-      pub by-nothing : f ≡ Nothing → b ≡ true → (r : Reached) → r ≡ reach empty noNotes → made r ≡ answerOf x y q
-      by-nothing s h r i = ap made i ∙ found true (reach empty noNotes) h ∙ by-family Nothing s
+      pub by-nothing : f ≡ Nothing → b ≡ true → (r : Said) → r ≡ made (reach empty noNotes) → r ≡ answerOf x y q
+      by-nothing s h r i = i ∙ found true (reach empty noNotes) h ∙ by-family Nothing s
 
       pub by-nothing-refused : f ≡ Nothing → b ≡ false → Choice.refused 3 ≡ answerOf x y q
       by-nothing-refused s h = found false (reach empty noNotes) h ∙ by-family Nothing s

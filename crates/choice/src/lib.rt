@@ -6,9 +6,11 @@ ghost use Prim.Native.Nat.{_<_, _≤_};
 ghost use lib.Dec.{T};
 ghost use lib.IntN.{pos};
 ghost use lib.ListN.{getD};
+ghost use Rattle.notes.specs.Notes.{noNotes};
 ghost use Rattle.tilings.specs.Tilings.{configurations};
+ghost use Rattle.tilings.specs.Plan.{empty, reach};
 ghost use Rattle.tilings.specs.Answers.{reached};
-ghost use Rattle.choice.specs.Choice.{natOf, refusalOf, choiceOf, answerOf, said};
+ghost use Rattle.choice.specs.Choice.{natOf, refusalOf, choiceOf, made, answerOf, said};
 ghost use Rattle.choice.specs.Inner.{InnerNumbers};
 ghost use Rattle.choice.specs.Kin.{kin, kinOf};
 ghost use Rattle.choice.specs.Ranges.{saidInRanges};
@@ -90,6 +92,13 @@ fn family_of(case: i8, configuration: i8) -> Family
     }
 }
 
+// The answer of case 0. A function by itself: see docs/DECISIONS.md, 'Refusal 9'.
+fn empty_answer() -> Answer
+    ensures { λ r. ⌜ said r ≡ made (reach empty noNotes) ⌝ }
+{
+    Answer::Chosen(tilings::nothing())
+}
+
 // The choice: refusal 1, 2 or 3 in this order, or what document 01 chooses.
 pub fn handle_cube(case: i8, configuration: i8, q: Cube) -> Answer
     ensures choice { λ r. ⌜ said r ≡ answerOf case configuration q ⌝ }
@@ -100,7 +109,7 @@ pub fn handle_cube(case: i8, configuration: i8, q: Cube) -> Answer
     match family_of(case, configuration) {
         Family::Nothing => {
             if cube::all_finite(q) {
-                return Answer::Chosen(tilings::nothing());
+                return empty_answer();
             }
             Answer::Refused(Refusal::NotFinite)
         }

@@ -28,8 +28,8 @@ enum-told c = search needs
 all-finite-requires : tie.Need-all-finite-requires
 all-finite-requires c κs = search needs
 
-nothing-requires : tie.Need-nothing-requires
-nothing-requires c κs = search needs
+empty-answer-requires : tie.Need-empty-answer-requires
+empty-answer-requires c κs = search needs
 
 returns : tie.Need-returns
 returns c = promised _ _ _ _ (search by-nothing)
@@ -74,7 +74,7 @@ handle-cube-spec =
     family-of-requires
     enum-told
     all-finite-requires
-    nothing-requires
+    empty-answer-requires
     returns
     enum-known-k
     all-finite-requires-2
