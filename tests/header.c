@@ -69,9 +69,9 @@ static void texts(void)
     int i, k;
     for (i = 0; i < 12; i++)
         for (k = 0; k < i; k++)
-            held((strcmp(mc33_refusal_text((uint64_t)i), mc33_refusal_text((uint64_t)k)) != 0) == (k < 10),
+            held((strcmp(mc33_refusal_text((uint64_t)i), mc33_refusal_text((uint64_t)k)) != 0) == (k < 9),
                  "each refusal has a text of its own", i);
-    held(strcmp(mc33_refusal_text(UINT64_MAX), mc33_refusal_text(10)) == 0, "any number has a text", 10);
+    held(strcmp(mc33_refusal_text(UINT64_MAX), mc33_refusal_text(9)) == 0, "9 is no refusal, and any number has a text", 9);
 }
 
 static void sizes(void)

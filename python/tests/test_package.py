@@ -85,9 +85,11 @@ class Library(unittest.TestCase):
 
     def test_another_major_version(self):
         others = "".join(f"void {name}(void) {{}}\n" for name in FUNCTIONS if name != "mc33_version")
-        made = self.made(others + "unsigned mc33_version(void) { return 2001; }")
-        self.assertRegex(self.said(made), r"made\.so has version 2\.1, .* 1\.0\.0 .* needs 1\. .*install\.sh")
+        for major in 1, 3:
+            made = self.made(others + f"unsigned mc33_version(void) {{ return {major}001; }}")
+            words = rf"made\.so has version {major}\.1, .* 2\.0\.0 .* needs 2\. .*install\.sh"
+            self.assertRegex(self.said(made), words)
 
     def test_a_later_minor_version(self):
         others = "".join(f"void {name}(void) {{}}\n" for name in FUNCTIONS if name != "mc33_version")
-        self.assertEqual(self.said(self.made(others + "unsigned mc33_version(void) { return 1007; }")), "1007")
+        self.assertEqual(self.said(self.made(others + "unsigned mc33_version(void) { return 2007; }")), "2007")

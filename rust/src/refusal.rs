@@ -125,7 +125,7 @@ mod tests {
     #[test]
     fn each_number_is_its_refusal() {
         assert_eq!(answered(0), Ok(()));
-        for number in 1..=9 {
+        for number in 1..=8 {
             let refusal = answered(number).unwrap_err();
             assert_eq!(refusal.number(), number);
             assert!(!matches!(refusal, Refusal::Unknown { .. }), "{number}");
@@ -134,7 +134,7 @@ mod tests {
 
     #[test]
     fn an_unknown_number_keeps_its_number() {
-        for number in [10, 12, 255, 256, 300, 257 << 32 | 3, u64::MAX] {
+        for number in [9, 10, 12, 255, 256, 300, 257 << 32 | 3, u64::MAX] {
             let refusal = answered(number).unwrap_err();
             assert_eq!(refusal, Refusal::Unknown { number });
             assert_eq!(refusal.number(), number);
