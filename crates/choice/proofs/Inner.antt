@@ -1,8 +1,8 @@
 -- After refusals 1, 2 and 3 no inner number leaves its table. Assumes nothing.
 use Prim.Native.Nat.{ℕ, _<_}
-use mathlib.Core.List.{List, map}
+use mathlib.Core.List.{map}
 use lib.Dec.{T}
-use lib.IntN.{ℤ, negsuc}
+use lib.IntN.{negsuc}
 use lib.ListN.{getD, length}
 use Rattle.cube.specs.declared.Cube.{Cube}
 use Rattle.cube.proofs.Bounds.{number-below}

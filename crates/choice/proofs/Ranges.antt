@@ -28,7 +28,7 @@ use Rattle.family_13.specs.Plans.{parts13, lastFrom, tile13, part13, plan13}
 use Rattle.families.specs.Tables.{«TEST_3», «TEST_4», «TEST_6», «TEST_7»}
 use Rattle.families.specs.Plans.{plan3, plan4, plan6, part7, plan7, plans, planOf}
 use Rattle.families.proofs.Families.{of-a-case}
-use Rattle.choice.specs.Choice.{isCase, isConfiguration, natOf, refusalOf, choiceOf, Said, made, refused, answerOf}
+use Rattle.choice.specs.Choice.{isCase, isConfiguration, natOf, refusalOf, choiceOf, made, refused, answerOf}
 use Rattle.choice.specs.Inner.{handsOn}
 use Rattle.choice.specs.Ranges.{readings, holdsMinus1, placed, inRanges, saidInRanges}
 

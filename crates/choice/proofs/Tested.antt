@@ -1,10 +1,10 @@
 -- What it tells that a choice is not refused: the family is known, and the choice is its plan's. `toZ w8 (ofZ w8 z)` is how code reads z. Assumes nothing.
-use mathlib.Core.Path.{_≡_, refl, sym, ap, _∙_, subst}
-use mathlib.Core.Bool.{Bool, true, false, cond, _&&_}
+use mathlib.Core.Path.{_≡_, sym, ap, _∙_, subst}
+use mathlib.Core.Bool.{_&&_}
 use Prim.Native.Nat.{ℕ, _≤_, _<_}
 use native.Mathlib.Nat.{suc-ne-zero}
 use lib.IntN.{ℤ, pos, negsuc}
-use lib.Dec.{T, leb, ltb, eqb, ltb→lt}
+use lib.Dec.{leb, ltb, eqb, ltb→lt}
 use lib.ListN.{getD}
 use lib.Ieee.Fits.{and-l}
 use mir.Syntax.{w8}

@@ -92,7 +92,8 @@ fn family_of(case: i8, configuration: i8) -> Family
     }
 }
 
-// The answer of case 0. A function by itself: see docs/DECISIONS.md, 'Refusal 9'.
+// The answer of case 0. By itself: with its body in `handle_cube` the compiler would read the four bytes of a tiling as
+// one word right after they are stored one by one, and wait for them.
 fn empty_answer() -> Answer
     ensures { λ r. ⌜ said r ≡ made (reach empty noNotes) ⌝ }
 {

@@ -5,7 +5,7 @@ use mathlib.Core.List.{List, [], _∷_, map}
 use Prim.Native.Nat.{ℕ, _+_, _-_, _*_, _/_, _%_, _<_, _≤_}
 use native.Mathlib.Omega.{arith}
 use borrow.Author.Tests.{ne-eqb}
-use lib.IntN.{ℤ, negsuc}
+use lib.IntN.{ℤ}
 use lib.Dec.{eqb}
 use lib.ListN.{getD}
 use Rattle.cube.specs.declared.Cube.{Cube}
@@ -17,7 +17,7 @@ use Rattle.thirteen.specs.Thirteen.{case13Of}
 use Rattle.tilings.specs.Tables.{entry}
 use Rattle.tilings.specs.Tilings as Tilings
 use Rattle.tilings.specs.Tilings.{hasCentre}
-use Rattle.tilings.specs.Plan.{Plan, noTiling, tiling, reach, run, untiled}
+use Rattle.tilings.specs.Plan.{noTiling, tiling, reach, run, untiled}
 use Rattle.tilings.specs.Answers.{answersOf}
 use Rattle.tilings.proofs.Columns.{rowsOf, tabled}
 use Rattle.tilings.proofs.Turns.{in-turn, codeOf, columnOf}

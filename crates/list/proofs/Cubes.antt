@@ -2,7 +2,7 @@
 use mathlib.Core.Path.{_≡_, sym, ap, _∙_}
 use mathlib.Core.Bool.{Bool, cond}
 use mathlib.Core.List.{List}
-use Prim.Native.Nat.{ℕ, _+_, _*_, _/_, _%_, _≤_, _<_}
+use Prim.Native.Nat.{ℕ, _+_, _*_, _/_, _%_, _<_}
 use lib.Dec.{eqb}
 use lib.IntN.{ℤ, pos}
 use lib.ListN.{length, getD}
@@ -14,7 +14,7 @@ use mir.ValLaws.{toZ-ofZ}
 use Rattle.cube.specs.declared.Cube.{Cube}
 use Rattle.reader.specs.declared.Step.{Step}
 use Rattle.reader.specs.declared.Step.the-variants as step
-use Rattle.reader.specs.Reader.{Standing, cube, part, end, standing, cubeAt, stepAt}
+use Rattle.reader.specs.Reader.{cube, part, end, standing, cubeAt, stepAt}
 use Rattle.choice.specs.Choice.{refusalOf, choiceOf}
 use Rattle.list.specs.Lists.{refusalAt, choiceAt}
 
@@ -41,10 +41,14 @@ module _ (xs : List Float) (i : ℕ) (h : i < length xs / 8) (r : Step) (e : sta
 
 -- the case, the configuration and the cube as they are read
 module _ (xs : List Float) (ns : List ℤ) (i : ℕ) (q : Cube) (f : SFits w8 (getD ns (2 * i) (pos 0))) (g : SFits w8 (getD ns (2 * i + 1) (pos 0))) (e : q ≡ cubeAt xs i) where
+  at-place : {A : Type 0} (of : ℤ → ℤ → Cube → A)
+      → of (toZ w8 (ofZ w8 (getD ns (2 * i) (pos 0)))) (toZ w8 (ofZ w8 (getD ns (2 * i + 1) (pos 0)))) q ≡ of (getD ns (2 * i) (pos 0)) (getD ns (2 * i + 1) (pos 0)) (cubeAt xs i)
+  at-place of = rw (toZ-ofZ w8 (getD ns (2 * i) (pos 0)) f, toZ-ofZ w8 (getD ns (2 * i + 1) (pos 0)) g, e)
+
   pub refusal-read : refusalOf (toZ w8 (ofZ w8 (getD ns (2 * i) (pos 0)))) (toZ w8 (ofZ w8 (getD ns (2 * i + 1) (pos 0)))) q ≡ refusalAt xs ns i
   unfolding refusalAt
-  refusal-read = rw (toZ-ofZ w8 (getD ns (2 * i) (pos 0)) f, toZ-ofZ w8 (getD ns (2 * i + 1) (pos 0)) g, e)
+  refusal-read = at-place refusalOf
 
   pub choice-read : choiceOf (toZ w8 (ofZ w8 (getD ns (2 * i) (pos 0)))) (toZ w8 (ofZ w8 (getD ns (2 * i + 1) (pos 0)))) q ≡ choiceAt xs ns i
   unfolding choiceAt
-  choice-read = rw (toZ-ofZ w8 (getD ns (2 * i) (pos 0)) f, toZ-ofZ w8 (getD ns (2 * i + 1) (pos 0)) g, e)
+  choice-read = at-place choiceOf

@@ -1,11 +1,11 @@
 -- A list of any number of empty cubes is done, and its rows are zeros. Assumes nothing.
-use mathlib.Core.Path.{_≡_, refl, sym, ap, _∙_}
-use mathlib.Core.Bool.{Bool, true, cond, _&&_}
-use mathlib.Core.List.{List, [], _∷_, _++_}
+use mathlib.Core.Path.{_≡_, refl, ap, _∙_}
+use mathlib.Core.Bool.{true}
+use mathlib.Core.List.{List, _++_}
 use Prim.Native.Nat.{ℕ, zero, suc, _+_, _*_, _/_, _%_, _≤_, _<_}
 use native.Mathlib.Omega.{arith}
-use lib.Dec.{eqb, leb}
-use lib.IntN.{ℤ, pos, negsuc}
+use lib.Dec.{leb}
+use lib.IntN.{pos, negsuc}
 use lib.ListN.{length, getD, drop, replicate, length-replicate, getD-replicate, replicate-append-replicate}
 use lib.Ieee.{nan}
 use borrow.Author.Tests.{eq-eqb, le-leb}
@@ -18,7 +18,7 @@ use Rattle.tilings.specs.Plan.{empty, Reached, reach, run}
 use Rattle.families.specs.Plans.{plans, planOf}
 use Rattle.choice.specs.Choice.{refusalOf, choiceOf}
 use Rattle.reader.specs.Reader.{cubeAt}
-use Rattle.list.specs.Lists.{cubes, lengthsAgree, refusalAt, choiceAt, Result, done, refusedAt, firstFrom, resultOf, bytesOf, rowsOf, answersBy, answersOf}
+use Rattle.list.specs.Lists.{cubes, lengthsAgree, refusalAt, choiceAt, Result, done, firstFrom, resultOf, bytesOf, rowsOf, answersBy, answersOf}
 use Rattle.list.specs.Tries.{zeros, empties}
 
 abbrev nought : Cube
