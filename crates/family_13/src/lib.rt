@@ -2,13 +2,10 @@
 // that follows the case's plan. Public: `case_13`.
 ghost use mathlib.Core.Path.{_≡_};
 ghost use Prim.Native.Nat.{_<_, _≤_};
-ghost use lib.IntN.{negsuc};
-ghost use lib.ListN.{getD};
 ghost use Rattle.notes.specs.Notes.{noNotes};
 ghost use Rattle.tilings.specs.Plan.{run};
 ghost use Rattle.tilings.specs.Answers.{answersOf, reached};
-ghost use Rattle.family_13.specs.Tables.{«SUB_CONFIG_13»};
-ghost use Rattle.family_13.specs.Plans.{tile13, part13, plan13};
+ghost use Rattle.family_13.specs.Plans.{tile13, partAt13, plan13};
 use cube::Cube;
 use cube::Face;
 use thirteen::interior_test_case13;
@@ -75,7 +72,7 @@ fn tile_13(q: Cube, c: u8, code: u8, column: u8) -> Counted
 
 fn part_13(q: Cube, c: u8, sub: u32) -> Counted
     requires { ⌜ (c < 2) × (sub ≤ 63) ⌝ }
-    ensures { λ r. ⌜ reached r ≡ run (answersOf q) (part13 c sub (getD «SUB_CONFIG_13» sub (negsuc 0))) noNotes ⌝ }
+    ensures { λ r. ⌜ reached r ≡ run (answersOf q) (partAt13 c sub) noNotes ⌝ }
 {
     let code = TILING_OF_13[(sub / 4) as usize][(sub % 4) as usize];
     if code == NONE {
