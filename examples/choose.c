@@ -62,6 +62,7 @@ int main(void)
     mc33_cube apart = {{1, -2, 1, -2, -1, -1, -1, -1}};
     mc33_cube level = {{3, -1, -1, -1, -1, -1, 3, -1}};
     mc33_cube steep = {{9, -1, -1, -1, -1, -1, 9, -1}};
+    mc33_cube flat = {{1, 1, 1, 1, 1, 1, 1, 1}};
     float corners[] = {
         1, -1, 1, -1, -1, -1, -1, -1,
         3, -1, -1, -1, -1, -1, 3, -1,
@@ -76,6 +77,7 @@ int main(void)
     print_choice(3, 0, tied);
     print_choice(3, 0, apart);
     print_choice(4, 0, level);
+    print_choice(4, 0, flat);
     print_choice(4, 8, level);
     print_face(tied, 5);
     print_face(tied, -5);
@@ -83,6 +85,7 @@ int main(void)
     print_edge(level, 0);
     print_edge(steep, 8);
     print_edge(tied, 0);
+    print_edge(flat, 0);
     print_edge(tied, 12);
     printf("root of 6.25: %g\n", mc33_root(6.25f));
     printf("root of ff800000: %08lx\n", (unsigned long)mc33_root_bits(0xff800000u));

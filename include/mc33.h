@@ -37,11 +37,12 @@ extern "C" {
 #endif
 
 /* The version of this header. The major number moves where a caller that was built before would read something
- * wrongly (the bytes of a row, the layout of a record, the meaning of a number) or would no longer build, since a name
- * is gone; the shared object's name has it, as libmc33.so.2. The minor number moves where something is added: a
- * function, or a refusal's number, so keep a `default` in a switch over refusals. */
+ * wrongly (the bytes of a row, the layout of a record, the meaning of a code) or would no longer build, since a name is
+ * gone; the shared object's name has it, as libmc33.so.2. The minor number moves where something is added: a function,
+ * a refusal's number, so keep a `default` in a switch over refusals, or what is counted: from 2.1 on `unsettled` counts
+ * blank readings too. */
 #define MC33_VERSION_MAJOR 2
-#define MC33_VERSION_MINOR 0
+#define MC33_VERSION_MINOR 1
 #define MC33_VERSION (1000 * MC33_VERSION_MAJOR + MC33_VERSION_MINOR)
 
 /* MC33_VERSION of the library that is linked. With another major number than this header's nothing else here holds. */
@@ -73,9 +74,10 @@ typedef struct {
     float c[8];
 } mc33_cube;
 
-/* A choice: code, row and column of the tiling, 1 where it is drawn with the centre, and how many edge readings had
- * a product equal to zero (0 to 3). MC33_EMPTY has zeros; MC33_NO_TILING has the configuration as row and the
- * sub-configuration as column. */
+/* A choice: code, row and column of the tiling, 1 where it is drawn with the centre, and how many of its edge readings
+ * were unsettled (0 to 3), that is crossed with a product equal to zero, or blank: so many times the inside hung on a
+ * tie or on no number. All corners 1 in case 4: three blank readings, unsettled 3. MC33_EMPTY has zeros;
+ * MC33_NO_TILING has the configuration as row and the sub-configuration as column. */
 typedef struct {
     uint8_t refusal, code, row, column, centre, unsettled;
 } mc33_choice;
@@ -90,7 +92,7 @@ enum {
     MC33_RISING = 1,
     MC33_BEYOND = 2,  /* has t */
     MC33_CROSSED = 3, /* has t and product */
-    MC33_BLANK = 4    /* t or the product was a NaN */
+    MC33_BLANK = 4    /* t or the product was a NaN, as on all edges of a cube of ones */
 };
 
 /* An edge reading: t and the product are 0 where the reading has none. */

@@ -3,10 +3,10 @@
     python3 oracle/library_calls.py calls > crates/library_calls/stdin
     python3 oracle/library_calls.py answers > crates/library_calls/stdout
 
-The version is the header's. Choices are document 01's own for its cubes to check by hand, and the Rust's for the
-cubes of mc33's sample, from crates/mc33/stdin and stdout. Lists, refusals, face tests, edge readings and roots are
-worked out here from document 01's text. Each operation is made in binary64 and rounded to binary32, which for +, -, ×, / and the root of normal
-results is the same as rounding once.
+The version is the header's. Choices are document 01's own for its cubes to check by hand, with unsettled as document
+02's Change 2 gives it, and the Rust's for the cubes of mc33's sample, from crates/mc33/stdin and stdout. Lists,
+refusals, face tests, edge readings and roots are worked out here from document 01's text. Each operation is made in
+binary64 and rounded to binary32, which for +, -, ×, / and the root of normal results is the same as rounding once.
 """
 import math
 import pathlib
@@ -125,10 +125,10 @@ def hand_cubes():
     made(4, 0, corners({0: 1, 6: 1}), 5, 0, 0, 0, 0)
     made(4, 0, corners({0: 9, 6: 9}), 6, 0, 0, 0, 0)
     made(4, 0, corners({0: 3, 6: 3}), 6, 0, 0, 0, 3)
-    made(4, 0, corners({}, 1), 6, 0, 0, 0, 0)
+    made(4, 0, corners({}, 1), 6, 0, 0, 0, 3)
     made(7, 0, corners({0: 1, 2: 1, 5: 1}), 15, 0, 0, 0, 0)
-    made(10, 0, corners({0: 1, 1: 1, 6: 1, 7: 1}), 20, 5, 0, 0, 0)
-    made(12, 0, corners({0: 1, 1: 1, 2: 1, 7: 1}), 26, 23, 0, 0, 0)
+    made(10, 0, corners({0: 1, 1: 1, 6: 1, 7: 1}), 20, 5, 0, 0, 1)
+    made(12, 0, corners({0: 1, 1: 1, 2: 1, 7: 1}), 26, 23, 0, 0, 2)
     made(13, 0, corners({0: 1, 2: 1, 5: 1, 7: 1}), 30, 0, 0, 0, 0)
     made(13, 0, corners({0: 1, 2: 1, 5: 1, 7: 1}, -2), 29, 0, 0, 0, 0)
     choose_list(120, 30, 60)

@@ -6,6 +6,7 @@ TIED = [1, -1, 1, -1, -1, -1, -1, -1]
 APART = [1, -2, 1, -2, -1, -1, -1, -1]
 LEVEL = [3, -1, -1, -1, -1, -1, 3, -1]
 STEEP = [9, -1, -1, -1, -1, -1, 9, -1]
+FLAT = [1] * 8
 CUBES = [TIED, LEVEL, [1, 2, 1, 2, 1, 4, 1, 4]]
 NUMBERS = [3, 0, 4, 0, 13, 0]
 
@@ -43,11 +44,11 @@ def print_list(cubes, numbers, answers):
         print(*answers[place:place + mc33.ROW])
 
 
-for case, configuration, corners in (3, 0, TIED), (3, 0, APART), (4, 0, LEVEL), (4, 8, LEVEL):
+for case, configuration, corners in (3, 0, TIED), (3, 0, APART), (4, 0, LEVEL), (4, 0, FLAT), (4, 8, LEVEL):
     print(f"case {case}/{configuration}: {said(choice, case, configuration, corners)}")
 for number in 5, -5, 0:
     print(f"face {number}: {said(face, TIED, number)}")
-for corners, number in (LEVEL, 0), (STEEP, 8), (TIED, 0), (TIED, 12):
+for corners, number in (LEVEL, 0), (STEEP, 8), (TIED, 0), (FLAT, 0), (TIED, 12):
     print(f"edge {number}: {said(edge, corners, number)}")
 print(f"root of 6.25: {mc33.root(6.25):g}")
 print(f"root of ff800000: {mc33.root_bits(0xff800000):08x}")

@@ -7,7 +7,8 @@ pub const FAMILY: usize = 0;
 const TILED: usize = FAMILY + 256;
 const SUB_CONFIGURATION: usize = TILED + 39 * 48 * 12;
 const UNSETTLED: usize = SUB_CONFIGURATION + 2 * 64;
-const WAY: usize = UNSETTLED + 15 * 4;
+const BLANK: usize = UNSETTLED + 15 * 4;
+const WAY: usize = BLANK + 15;
 const IN_CHOICE: usize = WAY + 2 * 6;
 const ALONE: usize = IN_CHOICE + 12 * 5;
 const FACE: usize = ALONE + 12 * 5;
@@ -47,6 +48,9 @@ pub fn met(rust: &Noted, choice: &Mc33Choice, mut meet: impl FnMut(usize)) {
     }
     for read in rust.made() {
         meet(reading(IN_CHOICE, read.edge, read.kind));
+        if read.is_blank() {
+            meet(BLANK + rust.case as usize);
+        }
     }
 }
 
@@ -74,6 +78,9 @@ pub fn wanted() -> Vec<(usize, String)> {
     for case in 1..15 {
         for number in 0..=READINGS[case] {
             all.push((UNSETTLED + case * 4 + number, format!("case {case} unsettled {number}")));
+        }
+        if READINGS[case] > 0 {
+            all.push((BLANK + case, format!("case {case} blank")));
         }
     }
     all.extend(wanted_readings(IN_CHOICE, "in a choice"));
@@ -146,7 +153,8 @@ pub fn print_met(counts: &[u64]) {
     print_sub_configurations(counts);
     for case in [4, 6, 7, 10, 12] {
         let (start, most) = (UNSETTLED + case * 4, READINGS[case]);
-        println!("case {case}: unsettled 0 to {most}: {:?}", &counts[start..=start + most]);
+        let (unsettled, blank) = (&counts[start..=start + most], counts[BLANK + case]);
+        println!("case {case}: unsettled 0 to {most}: {unsettled:?}; blank readings: {blank}");
     }
     print_readings(counts, IN_CHOICE, "readings in choices");
     print_readings(counts, ALONE, "readings alone");

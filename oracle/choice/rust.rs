@@ -199,8 +199,9 @@ impl<const ALTERED: bool> Counting<ALTERED> {
         self.sub_configuration = number;
     }
 
+    // A NaN t makes a NaN product, so that the product alone tells a blank reading.
     fn note_product(&self, product: f32) {
-        self.unsettled.set(self.unsettled.get() + (product == 0.0) as u8);
+        self.unsettled.set(self.unsettled.get() + (product == 0.0 || is_nan(product)) as u8);
     }
 
     fn note_edge(&self, _: i8) {}
@@ -259,6 +260,17 @@ pub struct Reading {
     pub kind: usize,
     pub t: f32,
     pub product: f32,
+}
+
+impl Reading {
+    pub fn is_blank(&self) -> bool {
+        self.kind == BLANK
+    }
+
+    // Document 02, Change 2.
+    fn is_unsettled(&self) -> bool {
+        self.is_blank() || self.kind == CROSSED && self.product == 0.0
+    }
 }
 
 fn is_nan(value: f32) -> bool {
@@ -329,14 +341,13 @@ impl Noted {
         last.set(Reading { kind: BEYOND, t, ..last.get() });
     }
 
-    // A NaN t makes a NaN product.
     fn note_product(&self, product: f32) {
         let last = &self.readings[self.made.get() - 1];
-        let edge = last.get().edge;
-        last.set(if is_nan(product) {
+        let Reading { edge, t, .. } = last.get();
+        last.set(if is_nan(t) || is_nan(product) {
             Reading { edge, kind: BLANK, t: 0.0, product: 0.0 }
         } else {
-            Reading { kind: CROSSED, product, ..last.get() }
+            Reading { edge, kind: CROSSED, t, product }
         });
     }
 
@@ -362,7 +373,7 @@ impl Noted {
 
     // The choice as the library should give it.
     pub fn choice(&self) -> Mc33Choice {
-        let unsettled = self.made().filter(|read| read.kind == CROSSED && read.product == 0.0).count() as u8;
+        let unsettled = self.made().filter(Reading::is_unsettled).count() as u8;
         let Note { code, row, column } = self.note;
         match (code, self.sub_configuration) {
             (0, None) if self.case == 0 => Mc33Choice::default(),

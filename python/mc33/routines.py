@@ -14,7 +14,10 @@ KINDS = {1: RISING, 2: BEYOND, 3: CROSSED, 4: BLANK}
 
 
 class Reading(NamedTuple):
-    """What is read at an edge: 'rising', 'beyond' with t, 'crossed' with t and product, or 'blank'."""
+    """What is read at an edge: 'rising', 'beyond' with t, 'crossed' with t and product, or 'blank'.
+
+    A choice counts it as unsettled where the product is zero and where it is blank.
+    """
 
     kind: str
     t: Optional[float] = None

@@ -12,7 +12,7 @@ from mc33.library import ChoiceRecord, EdgeRecord, FaceRecord
 from .support import LEVEL, TIED, needs_numpy, numpy
 
 # Document 01, 'Cubes to check by hand': case, configuration, corners that are not the last number, name, row, and
-# unsettled where it is said.
+# unsettled where it is said there or in document 02, Change 2.
 BY_HAND = [
     (3, 0, {0: 2, 2: 2}, -1, "3_2", 0, None),
     (3, 0, {0: 1, 2: 1, 1: -2, 3: -2}, -1, "3_1", 0, None),
@@ -23,10 +23,10 @@ BY_HAND = [
     (4, 0, {0: 1, 6: 1}, -1, "4_1", 0, None),
     (4, 0, {0: 9, 6: 9}, -1, "4_2", 0, 0),
     (4, 0, {0: 3, 6: 3}, -1, "4_2", 0, 3),
-    (4, 0, {}, 1, "4_2", 0, 0),
+    (4, 0, {}, 1, "4_2", 0, 3),
     (7, 0, {0: 1, 2: 1, 5: 1}, -1, "7_4_2", 0, None),
-    (10, 0, {0: 1, 1: 1, 6: 1, 7: 1}, -1, "10_1_2", 5, None),
-    (12, 0, {0: 1, 1: 1, 2: 1, 7: 1}, -1, "12_1_2", 23, None),
+    (10, 0, {0: 1, 1: 1, 6: 1, 7: 1}, -1, "10_1_2", 5, 1),
+    (12, 0, {0: 1, 1: 1, 2: 1, 7: 1}, -1, "12_1_2", 23, 2),
     (13, 0, {0: 1, 2: 1, 5: 1, 7: 1}, -1, "13_1_", 0, None),
     (13, 0, {0: 1, 2: 1, 5: 1, 7: 1}, -2, "13_1", 0, None),
 ]

@@ -63,12 +63,14 @@ fn main() {
     let apart = Cube([1.0, -2.0, 1.0, -2.0, -1.0, -1.0, -1.0, -1.0]);
     let level = Cube([3.0, -1.0, -1.0, -1.0, -1.0, -1.0, 3.0, -1.0]);
     let steep = Cube([9.0, -1.0, -1.0, -1.0, -1.0, -1.0, 9.0, -1.0]);
+    let flat = Cube([1.0; 8]);
     let mut cubes = [tied.0, level.0, [1.0, 2.0, 1.0, 2.0, 1.0, 4.0, 1.0, 4.0]];
     let numbers = [3, 0, 4, 0, 13, 0];
 
     print_choice(3, 0, tied);
     print_choice(3, 0, apart);
     print_choice(4, 0, level);
+    print_choice(4, 0, flat);
     print_choice(4, 8, level);
     print_face(tied, 5);
     print_face(tied, -5);
@@ -76,6 +78,7 @@ fn main() {
     print_edge(level, 0);
     print_edge(steep, 8);
     print_edge(tied, 0);
+    print_edge(flat, 0);
     print_edge(tied, 12);
     println!("root of 6.25: {}", root(6.25));
     println!("root of ff800000: {:08x}", root_bits(0xff80_0000));

@@ -17,7 +17,8 @@ pub struct Tiling {
     pub column: u8,
     /// Whether it is drawn with the centre.
     pub centre: bool,
-    /// How many edge readings made for the choice had a product equal to zero: 0 to 3.
+    /// How many edge readings made for the choice were unsettled, that is crossed with a product equal to zero, or
+    /// blank: 0 to 3. All corners 1 in case 4 give 3.
     pub unsettled: u8,
 }
 

@@ -38,7 +38,7 @@ pub use refusal::{ListRefused, Refusal};
 use library::{Mc33Choice, Mc33Edge, Mc33Face, Mc33Outcome};
 
 /// The version of the library that this crate was written for: (major, minor).
-pub const VERSION: (u32, u32) = (2, 0);
+pub const VERSION: (u32, u32) = (2, 1);
 
 /// The version of the library that is linked: (major, minor).
 ///
@@ -75,6 +75,9 @@ impl From<Cube> for [f32; 8] {
 /// use mc33::{choose, Choice, Cube, Refusal};
 /// let cube = Cube([3.0, -1.0, -1.0, -1.0, -1.0, -1.0, 3.0, -1.0]);
 /// let Ok(Choice::Tiled(tiling)) = choose(4, 0, cube) else { panic!() };
+/// assert_eq!((tiling.name(), tiling.unsettled), ("4_2", 3));
+/// // All ones: the three readings divide nothing by nothing, so they are blank, and unsettled too.
+/// let Ok(Choice::Tiled(tiling)) = choose(4, 0, Cube([1.0; 8])) else { panic!() };
 /// assert_eq!((tiling.name(), tiling.unsettled), ("4_2", 3));
 /// assert_eq!(choose(4, 8, cube), Err(Refusal::NoConfiguration));
 /// assert_eq!(choose(0, -1, cube), Ok(Choice::Empty));
@@ -149,10 +152,10 @@ pub enum Reading {
     Crossed {
         /// Where the product has its top.
         t: f32,
-        /// The product there; the reading is unsettled where it equals zero.
+        /// The product there; where it equals zero the reading is unsettled.
         product: f32,
     },
-    /// t or the product is a NaN.
+    /// t or the product is a NaN; the reading is unsettled.
     Blank,
 }
 

@@ -14,7 +14,7 @@ use Rattle.face.specs.Face.{faceCorners, faceCorner, rule, faceBy, faceOf}
 use Rattle.edge.specs.Edge.{moves, moveOf, crossBy, readBy, edgeBy}
 use Rattle.edge.specs.Moves.{movesOf}
 use Rattle.interior.specs.Pick.{diagonals, lastMatch, pickWith, pickBy}
-use Rattle.interior.specs.Interior.{joined, noteOf, seenAs, lookAt, insideBy, insideOf}
+use Rattle.interior.specs.Interior.{joined, seenAs, lookAt, insideBy, insideOf}
 use Rattle.thirteen.specs.Thirteen.{bothWithin, answerAt, case13By, case13Of}
 use Rattle.tilings.specs.Tilings.{configurations, tilingsOf, columnsOf, hasCentre}
 use Rattle.tilings.specs.Plan as Plan
@@ -106,10 +106,8 @@ all-refused = refl
 -- ---- choices, as the Rust makes them
 choices : List Test
 choices =
-    -- document 01's cubes that are not starred, and its third sample line
-    tiled 4 0 ones 6 0 0 false 0
-    ∷ tiled 12 0 (cube 0x3f800000 0x3f800000 0x3f800000 0xbf800000 0xbf800000 0xbf800000 0xbf800000 0x3f800000) 26 23 0 false 0
-    ∷ test (pos 13) (pos 0) (cube 0x3f800000 0x40000000 0x3f800000 0x40000000 0x3f800000 0x40800000 0x3f800000 0x40800000) (so (noTiling 0 5) 0)
+    -- document 01's third sample line
+    test (pos 13) (pos 0) (cube 0x3f800000 0x40000000 0x3f800000 0x40000000 0x3f800000 0x40800000 0x3f800000 0x40800000) (so (noTiling 0 5) 0)
     -- docs/DIFFERENCES.md, F8
     ∷ tiled 13 0 (cube 0x40a00000 0xc0400000 0x40000000 0xc0400000 0xc0400000 0x40000000 0xbf800000 0x3f800000) 37 1 0 false 0
     -- no tiling of the other configuration
@@ -123,7 +121,7 @@ choices =
     ∷ tiled 4 0 (cube 0x41100000 0xc0a00000 0x40000000 0x40000000 0xc0a00000 0xc0800000 0x41100000 0) 6 0 0 false 0
     ∷ tiled 5 20 (cube 0xc0000000 0xc0000000 0xc0000000 0xc0000000 0xc0000000 0x40000000 0xc0000000 0xc0000000) 7 20 0 false 0
     ∷ tiled 6 13 (cube 0xc0000000 0x40000000 0xc0000000 0xc0000000 0xc0000000 0xc0000000 0xc0000000 0xc0000000) 8 13 0 false 0
-    ∷ tiled 6 45 (cube 0x40000000 0x40000000 0x40000000 0x40000000 0x40000000 0x40000000 0x40000000 0x40000000) 9 45 0 false 0
+    ∷ tiled 6 45 (cube 0x40000000 0x40000000 0x40000000 0x40000000 0x40000000 0x40000000 0x40000000 0x40000000) 9 45 0 false 1
     ∷ tiled 6 5 (cube 0xc0000000 0xc0000000 0xc0000000 0xc0000000 0xc0000000 0xc0000000 0xc0000000 0xc0000000) 10 5 0 false 0
     ∷ tiled 7 12 (cube 0xc0000000 0xc0000000 0xc0000000 0xc0000000 0xc0000000 0xc0000000 0xbf800000 0xc0000000) 11 12 0 false 0
     ∷ tiled 7 13 (cube 0xc0000000 0xc0000000 0xc0000000 0xc0000000 0xbf800000 0xc0000000 0xc0000000 0xc0000000) 12 13 1 false 0
@@ -134,13 +132,13 @@ choices =
     ∷ tiled 9 4 (cube 0xc0000000 0xc0000000 0xc0000000 0xc0000000 0xc0000000 0xbf800000 0xc0000000 0xc0000000) 17 4 0 false 0
     ∷ tiled 10 2 (cube 0x3f800000 0xc0000000 0xc0000000 0x3f800000 0xc0400000 0x40000000 0x40000000 0xc0000000) 18 2 0 false 0
     ∷ tiled 10 3 (cube 0xc0000000 0x3f800000 0x40400000 0xc0000000 0x40400000 0xbf800000 0xbf800000 0x40000000) 19 3 0 false 0
-    ∷ tiled 10 2 (cube 0xc0000000 0xc0000000 0xc0000000 0xc0000000 0xc0000000 0xc0000000 0xc0000000 0xc0000000) 20 3 0 false 0
+    ∷ tiled 10 2 (cube 0xc0000000 0xc0000000 0xc0000000 0xc0000000 0xc0000000 0xc0000000 0xc0000000 0xc0000000) 20 3 0 false 1
     ∷ tiled 10 5 (cube 0xc0000000 0xc0000000 0xc0000000 0x40000000 0xc0000000 0xc0000000 0xc0000000 0xc0000000) 21 5 0 true 0
     ∷ tiled 10 3 (cube 0x40000000 0x40000000 0x40000000 0x40000000 0x40000000 0 0x40000000 0x40000000) 22 3 0 true 0
     ∷ tiled 11 1 (cube 0xc0000000 0xc0000000 0xc0000000 0xc0000000 0xc0000000 0xc0000000 0xc0000000 0xc0000000) 23 1 0 false 0
     ∷ tiled 12 2 (cube 0x40000000 0x40000000 0xc0000000 0xc0000000 0x40000000 0xc0400000 0x3f800000 0xbf800000) 24 2 0 false 0
     ∷ tiled 12 14 (cube 0xc0000000 0xbf800000 0xc0000000 0xc0000000 0xc0000000 0xc0000000 0xc0000000 0xc0000000) 25 14 0 false 0
-    ∷ tiled 12 9 (cube 0xc0000000 0xc0000000 0xc0000000 0xc0000000 0xc0000000 0xc0000000 0xc0000000 0xc0000000) 26 14 0 false 0
+    ∷ tiled 12 9 (cube 0xc0000000 0xc0000000 0xc0000000 0xc0000000 0xc0000000 0xc0000000 0xc0000000 0xc0000000) 26 14 0 false 2
     ∷ tiled 12 6 (cube 0x40000000 0xc0400000 0x40400000 0xc0000000 0x40000000 0xc0000000 0xc0000000 0x3f800000) 27 6 0 true 0
     ∷ tiled 12 21 (cube 0xc0400000 0xbf800000 0x40000000 0x40000000 0xc0000000 0x3f800000 0xc0000000 0x40000000) 28 21 0 true 0
     ∷ tiled 13 0 (cube 0x40e00000 0xc1400000 0x3f800000 0xc1400000 0xc1400000 0x40400000 0xc1100000 0x3f800000) 29 0 0 false 0
@@ -153,20 +151,25 @@ choices =
     ∷ tiled 13 0 (cube 0x3f800000 0xc0400000 0x40400000 0xc0400000 0xc0000000 0x40000000 0xc0000000 0x40000000) 36 0 2 false 0
     ∷ tiled 13 0 (cube 0x3f800000 0xc1100000 0x41100000 0xc0e00000 0xc1400000 0x41200000 0xc0e00000 0x41100000) 37 1 2 false 0
     ∷ tiled 14 0 (cube 0xc0000000 0x40000000 0x40000000 0x40000000 0x40000000 0x40000000 0x40000000 0x40000000) 38 0 0 false 0
-    -- unsettled
+    -- unsettled by products of zero
     ∷ tiled 4 3 (cube 0x40000000 0 0x40000000 0x40000000 0x3f800000 0x80000000 0x3f800000 0) 5 3 0 false 2
     ∷ tiled 4 7 (cube 0x80000000 0xbf800000 0xc0000000 0x3f800000 0x40000000 0xc0000000 0xc0000000 0x40000000) 6 7 0 false 3
     ∷ tiled 6 16 (cube 0x80000000 0 0xc0000000 0x40000000 0xbf800000 0x3f800000 0x3f800000 0xc0000000) 9 16 0 false 1
     ∷ tiled 7 7 (cube 0xbf800001 0xb4000000 0xbf800000 0x3f800000 0x34000001 0xbf800000 0x3f7fffff 0xb3ffffff) 14 7 0 false 2
-    ∷ tiled 7 3 (cube 0xbf800000 0x80000000 0 0x3f800000 0 0x3f800000 0xbf800000 0) 15 3 0 false 1
     ∷ tiled 7 6 (cube 0xbf800000 0xbf800000 0x3f800000 0xc0400000 0xc0000000 0x40000000 0xbf800000 0x40400000) 15 6 0 false 3
     ∷ tiled 10 0 (cube 0x3f800000 0xbf800000 0 0x80000000 0x80000000 0 0x3f800000 0xbf800000) 20 5 0 false 1
     ∷ tiled 12 17 (cube 0xdea23992 0x5ea39ea3 0xdeb69bb8 0x5cc355d0 0xbf0eef7a 0x3db25df0 0x3eac2bb6 0xbf514953) 24 17 0 false 1
     ∷ tiled 12 14 (cube 0xc0000000 0 0xc0000000 0 0x40000000 0xbf800000 0x40000000 0x80000000) 26 9 0 false 2
+    -- by blank readings: one, two, and beside a product of zero
+    ∷ tiled 7 3 (cube 0x8883425f 0x7f73f798 0x98397f91 0x72e4cf9d 0x1f5cb5da 0x8fbd0a67 0x9449c0b6 0x942dedad) 14 3 0 false 1
+    ∷ tiled 12 2 (cube 0 0 0xbf800000 0xbf800000 0xbf800000 0xbf800000 0 0xbf800000) 25 2 0 false 1
+    ∷ tiled 4 5 (cube 0 0x7f7fffff 0xbf800000 0x5f000000 0xdf000000 0x5f800000 0x5f800000 0) 5 5 0 false 2
+    ∷ tiled 12 14 (cube 0xc0000000 0xc0000000 0 0xc0000000 0xc0000000 0xc0000000 0x40000000 0) 26 9 0 false 2
+    ∷ tiled 7 3 (cube 0xbf800000 0x80000000 0 0x3f800000 0 0x3f800000 0xbf800000 0) 15 3 0 false 3
     ∷ []
 
 choices-hold : map (λ t. answerOf (t .case) (t .configuration) (t .q)) choices ≡ map (λ t. t .says) choices
-unfolding choices answerOf refusalOf choiceOf run settled askInTurn planOf plans plan3 plan4 plan6 part7 plan7 twoFaces plan10 plan12 parts13 lastFrom tile13 part13 plan13 «TEST_3» «TEST_4» «TEST_6» «TEST_7» «TEST_10» «TEST_12» «TEST_13» «SUB_CONFIG_13» configurations hasCentre faceOf faceBy rule faceCorner faceCorners insideOf insideBy joined lookAt seenAs noteOf pickBy pickWith lastMatch diagonals edgeBy readBy crossBy moveOf moves movesOf case13Of case13By answerAt bothWithin rootOf rootUnits wholeRoot rootWithin cornerOf valueAt corners allFinite ofBits neg add sub mul div lt eq le isNan ofInt
+unfolding choices answerOf refusalOf choiceOf run settled askInTurn planOf plans plan3 plan4 plan6 part7 plan7 twoFaces plan10 plan12 parts13 lastFrom tile13 part13 plan13 «TEST_3» «TEST_4» «TEST_6» «TEST_7» «TEST_10» «TEST_12» «TEST_13» «SUB_CONFIG_13» configurations hasCentre faceOf faceBy rule faceCorner faceCorners insideOf insideBy joined lookAt seenAs pickBy pickWith lastMatch diagonals edgeBy readBy crossBy moveOf moves movesOf case13Of case13By answerAt bothWithin rootOf rootUnits wholeRoot rootWithin cornerOf valueAt corners allFinite ofBits neg add sub mul div lt eq le isNan ofInt
 choices-hold = refl
 
 -- ---- ranges

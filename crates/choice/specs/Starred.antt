@@ -1,4 +1,4 @@
--- Document 01, 'Cubes to check by hand': the starred cubes, one table. Values are written as bits: 1 is 3f800000, -1 bf800000. Definitions only.
+-- Document 01, 'Cubes to check by hand': the starred cubes, one table, with the two others whose count document 02, Change 2, gives. Values are written as bits: 1 is 3f800000, -1 bf800000. Definitions only.
 use Prim.Native.Nat.{ℕ}
 use mathlib.Core.Path.{_≡_}
 use mathlib.Core.Bool.{false}
@@ -6,7 +6,7 @@ use mathlib.Core.List.{List, [], _∷_, map}
 use lib.IntN.{pos}
 use Rattle.cube.specs.declared.Cube.{Cube}
 use Rattle.cube.specs.Corners.{cube}
-use Rattle.tilings.specs.Tilings.{«TILING_3_1», «TILING_3_2», «TILING_4_1», «TILING_4_2», «TILING_7_4_2», «TILING_10_1_2», «TILING_13_1», «TILING_13_1_»}
+use Rattle.tilings.specs.Tilings.{«TILING_3_1», «TILING_3_2», «TILING_4_1», «TILING_4_2», «TILING_7_4_2», «TILING_10_1_2», «TILING_12_1_2», «TILING_13_1», «TILING_13_1_»}
 use Rattle.tilings.specs.Plan.{tiling, reach}
 use Rattle.choice.specs.Choice.{Said, made, answerOf}
 
@@ -43,11 +43,14 @@ stars =
     ∷ star 4 0 (cube 0x40400000 minusOne minusOne minusOne minusOne minusOne 0x40400000 minusOne) «TILING_4_2» 0 3
     -- c0=c2=c5=1: 7_4_2
     ∷ star 7 0 (cube one minusOne one minusOne minusOne one minusOne minusOne) «TILING_7_4_2» 0 0
-    -- c0=c1=c6=c7=1: 10_1_2, row 5
-    ∷ star 10 0 (cube one one minusOne minusOne minusOne minusOne one one) «TILING_10_1_2» 5 0
+    -- c0=c1=c6=c7=1: 10_1_2, row 5; by Change 2 unsettled 1
+    ∷ star 10 0 (cube one one minusOne minusOne minusOne minusOne one one) «TILING_10_1_2» 5 1
     -- c0=c2=c5=c7=1: 13_1_; negatives -2: 13_1
     ∷ star 13 0 (cube one minusOne one minusOne minusOne one minusOne one) «TILING_13_1_» 0 0
     ∷ star 13 0 (cube one 0xc0000000 one 0xc0000000 0xc0000000 one 0xc0000000 one) «TILING_13_1» 0 0
+    -- Change 2: case 4, all 1: unsettled 3. Case 12, c0=c1=c2=c7=1: unsettled 2
+    ∷ star 4 0 (cube one one one one one one one one) «TILING_4_2» 0 3
+    ∷ star 12 0 (cube one one one minusOne minusOne minusOne minusOne one) «TILING_12_1_2» 23 2
     ∷ []
 
 abbrev pub StarredCubes : Type 0

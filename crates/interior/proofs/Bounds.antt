@@ -9,11 +9,10 @@ use lib.ListN.{length}
 use Rattle.binary32.specs.Numbers.{Numbers, f32}
 use Rattle.cube.specs.declared.Cube.{Cube}
 use Rattle.cube.specs.Corners.{cornerOf}
-use Rattle.edge.specs.Edge.{Told, rising, beyond, crossed, blank, Quotients, edgeBy, quotients}
-use Rattle.notes.specs.Notes.{total}
+use Rattle.edge.specs.Edge.{Told, Quotients, edgeBy, quotients}
 use Rattle.interior.specs.declared.Sight.{Sight}
 use Rattle.interior.specs.Pick.{pickBy}
-use Rattle.interior.specs.Interior.{joined, noteOf, seenAs, lookAt, insideBy, insideOf, counted}
+use Rattle.interior.specs.Interior.{isUnsettled, joined, seenAs, lookAt, insideBy, insideOf, counted}
 
 one-or-none : (b : Bool) → cond b 1 0 ≤ 1
 one-or-none true = lit≤ tt
@@ -24,16 +23,9 @@ unfolding joined
 counted-joined x y = omega arith
 
 module _ (K : Numbers) (D : Quotients K) where
-  counted-reading : (r : Told (D .Q)) → total (noteOf K D r) ≤ 1
-  unfolding noteOf
-  counted-reading rising = lit≤ tt
-  counted-reading (beyond t) = lit≤ tt
-  counted-reading (crossed t p) = one-or-none (D .nought p)
-  counted-reading blank = lit≤ tt
-
   pub counted-look : (t : Told (D .Q)) → counted (seenAs K D t) ≤ 1
   unfolding seenAs
-  counted-look t = counted-reading t
+  counted-look t = one-or-none (isUnsettled K D t)
 
   counted-one : (corner : ℕ → K .N) (n : ℕ) → counted (lookAt K D corner n) ≤ 1
   unfolding lookAt

@@ -12,7 +12,7 @@ use Rattle.cube.specs.Corners.{corners, valueAt, cornerOf, cube}
 use Rattle.edge.specs.Edge.{moves, moveOf, crossBy, readBy, edgeBy}
 use Rattle.interior.specs.declared.Sight.{Sight}
 use Rattle.interior.specs.Pick.{diagonals, lastMatch, pickWith, pickBy}
-use Rattle.interior.specs.Interior.{seen, joined, noteOf, seenAs, lookAt, insideBy, insideOf}
+use Rattle.interior.specs.Interior.{seen, joined, seenAs, lookAt, insideBy, insideOf}
 
 -- 1, -1 and -0
 abbrev up : ℕ
@@ -96,7 +96,7 @@ tests =
     test (cube up down down down down down up down) three (pos 7) (sees true 0)
     ∷ test (cube 0x41100000 down down down down down 0x41100000 down) three (pos 7) (sees false 0)
     ∷ test (cube 0x40400000 down down down down down 0x40400000 down) three (pos 7) (sees false 3)
-    ∷ test (cube up up up up up up up up) three (pos 7) (sees false 0)
+    ∷ test (cube up up up up up up up up) three (pos 7) (sees false 3)
     -- the third with other signs and s = -7
     ∷ test (cube 0xc0400000 up up up up up 0xc0400000 up) three (negsuc 6) (sees false 3)
     -- true by the first reading alone, by the second, by the third; counts of the others stand
@@ -110,13 +110,13 @@ tests =
     ∷ test mixed (2 ∷ 5 ∷ []) (pos 7) (sees true 1)
     ∷ test mixed (5 ∷ 2 ∷ []) (pos 7) (sees true 1)
     ∷ test mixed (1 ∷ 1 ∷ []) (pos 7) (sees false 2)
-    -- a reading that is blank is not unsettled
-    ∷ test (cube down 0x40000000 0x40800000 0xc0000000 up 0xc0000000 0xc0000000 up) three (pos 7) (sees false 1)
-    ∷ test (cube 0 0 0 0 0 0 0 0) three (pos 7) (sees false 0)
+    -- one product of zero and two blank readings; three blank ones
+    ∷ test (cube down 0x40000000 0x40800000 0xc0000000 up 0xc0000000 0xc0000000 up) three (pos 7) (sees false 3)
+    ∷ test (cube 0 0 0 0 0 0 0 0) three (pos 7) (sees false 3)
     -- no pair matches: edge 0 is read each time
     ∷ test (cube 0x40000000 0xc0000000 0x40400000 0xc0400000 0xc0000000 0x40000000 0xc0000000 0x40000000) three (pos 7) (sees false 3)
     ∷ []
 
 tests-hold : map (λ t. insideOf (t .q) (t .faces) (t .s)) tests ≡ map (λ t. t .says) tests
-unfolding tests insideOf insideBy joined lookAt seenAs noteOf edgeBy readBy crossBy moveOf moves pickBy pickWith lastMatch diagonals cornerOf valueAt corners ofBits neg add sub mul div lt eq isNan ofInt
+unfolding tests insideOf insideBy joined lookAt seenAs edgeBy readBy crossBy moveOf moves pickBy pickWith lastMatch diagonals cornerOf valueAt corners ofBits neg add sub mul div lt eq isNan ofInt
 tests-hold = refl

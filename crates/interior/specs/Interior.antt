@@ -1,7 +1,7 @@
 -- Document 01, 'Interior test', over any kind of number: the readings for given ambiguous faces and s. Which faces and which sign a case
 -- takes is in its plan (`families`, `two_faces`). Definitions only.
 use Prim.Native.Nat.{ℕ}
-use mathlib.Core.Bool.{Bool, false, cond, _||_}
+use mathlib.Core.Bool.{Bool, true, false, _||_}
 use mathlib.Core.List.{List, map, foldr}
 use lib.IntN.{ℤ, pos}
 use Rattle.binary32.specs.Numbers.{Numbers, f32}
@@ -9,7 +9,7 @@ use Rattle.cube.specs.declared.Cube.{Cube}
 use Rattle.cube.specs.Corners.{cornerOf}
 use Rattle.edge.specs.Edge.{Told, rising, beyond, crossed, blank, Quotients, valued, edgeBy, quotients}
 use Rattle.notes.specs.declared.Notes.{Notes}
-use Rattle.notes.specs.Notes.{noNotes, added, total}
+use Rattle.notes.specs.Notes.{noNotes, lookOf, added, total}
 use Rattle.interior.specs.declared.Sight.{Sight}
 use Rattle.interior.specs.Pick.{pickBy}
 
@@ -25,15 +25,15 @@ module _ (K : Numbers) (D : Quotients K) where
   open Numbers K using (N)
   open Quotients D using (Q, nought)
 
-  -- unsettled counts a reading whose product compares equal to zero
-  unfoldable pub noteOf : Told Q → Notes
-  noteOf rising = noNotes
-  noteOf (beyond t) = noNotes
-  noteOf (crossed t p) = record { unsettled = cond (nought p) 1 0 }
-  noteOf blank = noNotes
+  -- document 02, Change 2: crossed with product zero, or blank
+  abbrev pub isUnsettled : Told Q → Bool
+  isUnsettled rising = false
+  isUnsettled (beyond t) = false
+  isUnsettled (crossed t p) = nought p
+  isUnsettled blank = true
 
   unfoldable pub seenAs : Told Q → Sight
-  seenAs r = seen (valued K D r) (noteOf r)
+  seenAs r = seen (valued K D r) (lookOf (isUnsettled r))
 
   -- what is read at the edge that is picked
   unfoldable pub lookAt : (ℕ → N) → ℕ → Sight

@@ -7,11 +7,11 @@ ghost use mathlib.Core.List.{[], _∷_};
 ghost use lib.Dec.{T};
 ghost use lib.IntN.{pos};
 ghost use Rattle.binary32.specs.Numbers.{f32};
-ghost use Rattle.edge.specs.Edge.{crossed, quotients, valued, told, isEdge};
+ghost use Rattle.edge.specs.Edge.{quotients, valued, told, isEdge};
 ghost use Rattle.edge.specs.Moves.{readOf};
 ghost use Rattle.interior.specs.Pick.{IsAmbiguousFace, pickWith};
 ghost use Rattle.interior.specs.Diagonals.{diagonalsOf, heldBy, setOf, edgesOf};
-ghost use Rattle.interior.specs.Interior.{noteOf, seenAs, joined, counted, insideOf};
+ghost use Rattle.interior.specs.Interior.{isUnsettled, seenAs, joined, counted, insideOf};
 use cube::Cube;
 use cube::EdgeNo;
 use cube::bits::bit;
@@ -82,15 +82,6 @@ fn interior_ambiguity(d: Diagonals, face: AmbiguousFace) -> EdgeNo
     EdgeNo(((edges(face.0) >> (4 * set_of(d))) % 16) as i8)
 }
 
-// One unsettled where the product compares equal to zero.
-fn unsettled_by(product: f32) -> Notes
-    ensures { λ r. ⌜ r ≡ noteOf f32 quotients (crossed product product) ⌝ }
-{
-    Notes {
-        unsettled: (product == 0.0) as u8,
-    }
-}
-
 // Whether a reading's value is 1.
 fn value_of(r: Reading) -> bool
     ensures { λ x. ⌜ x ≡ valued f32 quotients (told r) ⌝ }
@@ -103,25 +94,25 @@ fn value_of(r: Reading) -> bool
     }
 }
 
-// What a reading counts.
-fn note_of(r: Reading) -> Notes
-    ensures { λ x. ⌜ x ≡ noteOf f32 quotients (told r) ⌝ }
+// Whether a reading is unsettled: crossed with product zero, or blank.
+fn is_unsettled(r: Reading) -> bool
+    ensures { λ x. ⌜ x ≡ isUnsettled f32 quotients (told r) ⌝ }
 {
     match r {
-        Reading::Rising => notes::none(),
-        Reading::Beyond(_) => notes::none(),
-        Reading::Crossed(_, product) => unsettled_by(product),
-        Reading::Blank => notes::none(),
+        Reading::Rising => false,
+        Reading::Beyond(_) => false,
+        Reading::Crossed(_, product) => product == 0.0,
+        Reading::Blank => true,
     }
 }
 
-// What a reading says: a value of 1, and a product equal to zero is unsettled.
+// What a reading says: whether its value is 1, and what it counts.
 fn sight_of(r: Reading) -> Sight
     ensures { λ x. ⌜ x ≡ seenAs f32 quotients (told r) ⌝ }
 {
     Sight {
         hit: value_of(r),
-        notes: note_of(r),
+        notes: notes::look(is_unsettled(r)),
     }
 }
 

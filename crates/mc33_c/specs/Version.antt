@@ -5,9 +5,9 @@ use Prim.Native.Nat.{ℕ, _+_, _*_}
 abbrev pub major : ℕ
 major = 2
 
--- moves where something is added
+-- moves where something is added, as to what is counted
 abbrev pub minor : ℕ
-minor = 0
+minor = 1
 
 abbrev pub version : ℕ
 version = 1000 * major + minor

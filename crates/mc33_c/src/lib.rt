@@ -68,7 +68,7 @@ pub struct Mc33Outcome {
 pub extern "C" fn mc33_version() -> u32
     ensures { λ r. ⌜ r ≡ version ⌝ }
 {
-    2000
+    2001
 }
 
 // The f32 square root of x: the nearest value. A NaN has no pattern of its own here.

@@ -1,10 +1,10 @@
-// What a choice counts on its way: document 01, 'A choice'. `none`, `add` and the maker of a note (`interior`) set the
-// fields; they are read where an answer is written.
+// What a choice counts on its way: document 01, 'A choice'. `none`, `look` and `add` alone set the fields; they are read
+// where an answer is written.
 ghost use mathlib.Core.Path.{_≡_};
 ghost use Prim.Native.Nat.{_+_, _≤_};
-ghost use Rattle.notes.specs.Notes.{noNotes, added, total};
+ghost use Rattle.notes.specs.Notes.{noNotes, lookOf, added, total};
 
-// Unsettled: the edge readings whose product compares equal to zero.
+// Unsettled: the edge readings that are crossed with product zero or blank (document 02, Change 2).
 pub struct Notes {
     pub unsettled: u8,
 }
@@ -13,6 +13,15 @@ pub fn none() -> Notes
     ensures { λ r. ⌜ r ≡ noNotes ⌝ }
 {
     Notes { unsettled: 0 }
+}
+
+// What an edge reading counts.
+pub fn look(unsettled: bool) -> Notes
+    ensures { λ r. ⌜ r ≡ lookOf unsettled ⌝ }
+{
+    Notes {
+        unsettled: unsettled as u8,
+    }
 }
 
 pub fn add(x: Notes, y: Notes) -> Notes

@@ -7,11 +7,14 @@ use Rattle.interior.proofs.sight_of.Tie as tie
 value-of-requires : tie.Need-value-of-requires
 value-of-requires c κs = search needs
 
-note-of-requires : tie.Need-note-of-requires
-note-of-requires c κs = search needs
+is-unsettled-requires : tie.Need-is-unsettled-requires
+is-unsettled-requires c κs = search needs
+
+look-requires : tie.Need-look-requires
+look-requires c κs = search needs
 
 returns : tie.Need-returns
 returns c = search seen-as
 
 pub sight-of-spec : {M : Type 1} → statement M
-sight-of-spec = tie.close (tie.spec value-of-requires note-of-requires returns)
+sight-of-spec = tie.close (tie.spec value-of-requires is-unsettled-requires look-requires returns)
