@@ -2,4 +2,5 @@ pub mod Bounds
 mod Controls
 mod Insides
 pub mod Picks
+mod Settled
 mod Sights

@@ -4,7 +4,7 @@ use mathlib.Core.Bool.{Bool, false, _||_, or-false}
 use Prim.Native.Nat.{ℕ}
 use native.Mathlib.Nat.{add-zero}
 use lib.IntN.{pos}
-use lib.Ieee.{Float, binary32, lt, eq, ofBits}
+use lib.Ieee.{Float, binary32, lt, ofBits}
 use Rattle.binary32.specs.Numbers.{f32}
 use Rattle.edge.specs.declared.Reading.{Reading}
 use Rattle.edge.specs.declared.Reading.the-variants.{Crossed}
@@ -15,15 +15,16 @@ use Rattle.notes.specs.declared.Notes.{Notes}
 use Rattle.notes.specs.Notes.{noNotes, lookOf, added}
 use Rattle.interior.specs.declared.Sight.{Sight}
 use Rattle.interior.specs.Interior.{seen, isUnsettled, seenAs, lookAt, joined}
+use Rattle.interior.specs.Settled.{isOff}
 
 -- ---- one reading
 pub below-valued : (r : Reading) (t p : Float) → r ≡ Crossed t p → lt p (ofBits binary32 0) ≡ valued f32 quotients (told r)
 unfolding ofBits
 below-valued r t p e = rw e
 
-pub nought-unsettled : (r : Reading) (t p : Float) → r ≡ Crossed t p → eq p (ofBits binary32 0) ≡ isUnsettled f32 quotients (told r)
+pub off-zero : (r : Reading) (t p : Float) → r ≡ Crossed t p → lt p (ofBits binary32 0) || lt (ofBits binary32 0) p ≡ isOff (told r)
 unfolding ofBits
-nought-unsettled r t p e = rw e
+off-zero r t p e = rw e
 
 pub seen-as : (r : Reading) (b u : Bool) (m : Notes)
     → b ≡ valued f32 quotients (told r) → u ≡ isUnsettled f32 quotients (told r) → m ≡ lookOf u → seen b m ≡ seenAs f32 quotients (told r)

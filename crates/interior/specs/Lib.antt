@@ -1,3 +1,4 @@
 pub mod Diagonals
 pub mod Interior
 pub mod Pick
+pub mod Settled

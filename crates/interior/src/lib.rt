@@ -11,6 +11,7 @@ ghost use Rattle.edge.specs.Edge.{quotients, valued, told, isEdge};
 ghost use Rattle.edge.specs.Moves.{readOf};
 ghost use Rattle.interior.specs.Pick.{IsAmbiguousFace, pickWith};
 ghost use Rattle.interior.specs.Diagonals.{diagonalsOf, heldBy, setOf, edgesOf};
+ghost use Rattle.interior.specs.Settled.{isPast, isOff, isReal};
 ghost use Rattle.interior.specs.Interior.{isUnsettled, seenAs, joined, counted, insideOf};
 use cube::Cube;
 use cube::EdgeNo;
@@ -94,20 +95,42 @@ fn value_of(r: Reading) -> bool
     }
 }
 
-// Whether a reading is unsettled: crossed with product zero, or blank.
-fn is_unsettled(r: Reading) -> bool
-    ensures { λ x. ⌜ x ≡ isUnsettled f32 quotients (told r) ⌝ }
+// Whether a reading is rising or beyond.
+fn is_past(r: Reading) -> bool
+    ensures { λ x. ⌜ x ≡ isPast (told r) ⌝ }
+{
+    match r {
+        Reading::Rising => true,
+        Reading::Beyond(_) => true,
+        Reading::Crossed(_, _) => false,
+        Reading::Blank => false,
+    }
+}
+
+// Whether a reading is crossed with a product below or above zero.
+fn is_off(r: Reading) -> bool
+    ensures { λ x. ⌜ x ≡ isOff (told r) ⌝ }
 {
     match r {
         Reading::Rising => false,
         Reading::Beyond(_) => false,
-        Reading::Crossed(_, product) => product == 0.0,
-        Reading::Blank => true,
+        Reading::Crossed(_, product) => (product < 0.0) | (product > 0.0),
+        Reading::Blank => false,
     }
+}
+
+// Whether a reading is unsettled: crossed with product zero, or blank. In these two tests, so that the compiler makes one
+// comparison of the product zero and the NaN.
+fn is_unsettled(r: Reading) -> bool
+    requires { ⌜ T (isReal (told r)) ⌝ }
+    ensures { λ x. ⌜ x ≡ isUnsettled f32 quotients (told r) ⌝ }
+{
+    !(is_past(r) | is_off(r))
 }
 
 // What a reading says: whether its value is 1, and what it counts.
 fn sight_of(r: Reading) -> Sight
+    requires { ⌜ T (isReal (told r)) ⌝ }
     ensures { λ x. ⌜ x ≡ seenAs f32 quotients (told r) ⌝ }
 {
     Sight {

@@ -1,34 +1,18 @@
 -- `interior::is_unsettled` is `isUnsettled`.
 use borrow.Author.Needs.{needs}
-use Rattle.interior.proofs.Sights.{nought-unsettled}
+use Rattle.edge.specs.Edge.{told}
+use Rattle.interior.proofs.Settled.{neither-test}
 use Rattle.interior.proofs.is_unsettled.Statement.{statement}
 use Rattle.interior.proofs.is_unsettled.Tie as tie
 
-enum-told : tie.Need-enum-told
-enum-told c = search needs
+is-past-requires : tie.Need-is-past-requires
+is-past-requires c κs = search needs
 
-enum-told-2 : tie.Need-enum-told-2
-enum-told-2 c = search needs
-
-enum-known-r : tie.Need-enum-known-r
-enum-known-r c = search needs
-
-enum-told-3 : tie.Need-enum-told-3
-enum-told-3 c = search needs
+is-off-requires : tie.Need-is-off-requires
+is-off-requires c κs = search needs
 
 returns : tie.Need-returns
-returns c = search needs
-
-returns-2 : tie.Need-returns-2
-returns-2 c = search needs
-
-returns-3 : tie.Need-returns-3
-returns-3 c = search nought-unsettled
-
-returns-4 : tie.Need-returns-4
-returns-4 c = search needs
+returns c = neither-test (told (c .before .before .args .r)) _ _ (c .before .is-past .ensures) (c .is-off .ensures) (c .before .before .pre)
 
 pub is-unsettled-spec : {M : Type 1} → statement M
-is-unsettled-spec =
-    tie.close
-    (tie.spec enum-told enum-told-2 enum-known-r enum-told-3 returns returns-2 returns-3 returns-4)
+is-unsettled-spec = tie.close (tie.spec is-past-requires is-off-requires returns)

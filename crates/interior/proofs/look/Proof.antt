@@ -4,6 +4,7 @@ use borrow.Author.Needs.{needs}
 use Rattle.binary32.specs.Numbers.{f32}
 use Rattle.edge.specs.Edge.{quotients}
 use Rattle.interior.specs.Interior.{seenAs}
+use Rattle.interior.proofs.Settled.{told-by-moves}
 use Rattle.interior.proofs.look.Statement.{statement}
 use Rattle.interior.proofs.look.Tie as tie
 
@@ -11,7 +12,7 @@ read-requires : tie.Need-read-requires
 read-requires c κs = search needs
 
 sight-of-requires : tie.Need-sight-of-requires
-sight-of-requires c κs = search needs
+sight-of-requires c κs = told-by-moves _ _ (c .read .ensures)
 
 returns : tie.Need-returns
 returns c = c .sight-of .ensures ∙ ap (seenAs f32 quotients) (c .before .read .ensures)

@@ -1,0 +1,34 @@
+-- `interior::is_off` is `isOff`.
+use borrow.Author.Needs.{needs}
+use Rattle.interior.proofs.Sights.{off-zero}
+use Rattle.interior.proofs.is_off.Statement.{statement}
+use Rattle.interior.proofs.is_off.Tie as tie
+
+enum-told : tie.Need-enum-told
+enum-told c = search needs
+
+enum-told-2 : tie.Need-enum-told-2
+enum-told-2 c = search needs
+
+enum-known-r : tie.Need-enum-known-r
+enum-known-r c = search needs
+
+enum-told-3 : tie.Need-enum-told-3
+enum-told-3 c = search needs
+
+returns : tie.Need-returns
+returns c = search needs
+
+returns-2 : tie.Need-returns-2
+returns-2 c = search needs
+
+returns-3 : tie.Need-returns-3
+returns-3 c = search off-zero
+
+returns-4 : tie.Need-returns-4
+returns-4 c = search needs
+
+pub is-off-spec : {M : Type 1} → statement M
+is-off-spec =
+    tie.close
+    (tie.spec enum-told enum-told-2 enum-known-r enum-told-3 returns returns-2 returns-3 returns-4)
