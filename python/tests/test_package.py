@@ -87,7 +87,7 @@ class Library(unittest.TestCase):
         others = "".join(f"void {name}(void) {{}}\n" for name in FUNCTIONS if name != "mc33_version")
         for major in 1, 3:
             made = self.made(others + f"unsigned mc33_version(void) {{ return {major}001; }}")
-            words = rf"made\.so has version {major}\.1, .* 2\.0\.0 .* needs 2\. .*install\.sh"
+            words = rf"made\.so has version {major}\.1, .* 2\.1\.0 .* needs 2\. .*install\.sh"
             self.assertRegex(self.said(made), words)
 
     def test_a_later_minor_version(self):
