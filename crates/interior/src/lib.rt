@@ -119,8 +119,8 @@ fn is_off(r: Reading) -> bool
     }
 }
 
-// Whether a reading is unsettled: crossed with product zero, or blank. In these two tests, so that the compiler makes one
-// comparison of the product zero and the NaN.
+// Whether a reading is unsettled: crossed with product zero, or blank. Asked by the two tests of what is settled, since
+// the compiler makes one comparison of them for the zero and the NaN.
 fn is_unsettled(r: Reading) -> bool
     requires { ⌜ T (isReal (told r)) ⌝ }
     ensures { λ x. ⌜ x ≡ isUnsettled f32 quotients (told r) ⌝ }
