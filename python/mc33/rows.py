@@ -16,7 +16,8 @@ class Choice(NamedTuple):
     """What is chosen for a cube. A later major version may add fields at the end.
 
     `unsettled` is how many of its edge readings were crossed with a product of zero or blank, 0 to 3: the cube of all
-    ones in case 4 has 3. Code EMPTY has zeros. Code NO_TILING has the configuration as row and the sub-configuration as column.
+    ones in case 4 has 3. Code EMPTY has zeros. Code NO_TILING has the configuration as row and the sub-configuration
+    as column.
     """
 
     code: int
