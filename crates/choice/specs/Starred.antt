@@ -1,4 +1,5 @@
--- Document 01, 'Cubes to check by hand': the starred cubes, one table, with the two others whose count document 02, Change 2, gives. Values are written as bits: 1 is 3f800000, -1 bf800000. Definitions only.
+-- Document 01, 'Cubes to check by hand': the starred cubes, one table, and the two other cubes whose unsettled document 02, Change 2, gives. Values are
+-- written as bits: 1 is 3f800000, -1 bf800000. Definitions only.
 use Prim.Native.Nat.{ℕ}
 use mathlib.Core.Path.{_≡_}
 use mathlib.Core.Bool.{false}

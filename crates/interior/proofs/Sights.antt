@@ -4,27 +4,21 @@ use mathlib.Core.Bool.{Bool, false, _||_, or-false}
 use Prim.Native.Nat.{ℕ}
 use native.Mathlib.Nat.{add-zero}
 use lib.IntN.{pos}
-use lib.Ieee.{Float, binary32, lt, ofBits}
+use lib.Ieee.{Float}
 use Rattle.binary32.specs.Numbers.{f32}
 use Rattle.edge.specs.declared.Reading.{Reading}
-use Rattle.edge.specs.declared.Reading.the-variants.{Crossed}
-use Rattle.edge.specs.Edge.{quotients, valued, edgeBy, told}
+use Rattle.edge.specs.Edge.{Told, quotients, valued, edgeBy, told}
 use Rattle.edge.specs.declared.Moves.{Moves}
 use Rattle.edge.specs.Moves.{movesOf, readOf}
 use Rattle.notes.specs.declared.Notes.{Notes}
 use Rattle.notes.specs.Notes.{noNotes, lookOf, added}
 use Rattle.interior.specs.declared.Sight.{Sight}
 use Rattle.interior.specs.Interior.{seen, isUnsettled, seenAs, lookAt, joined}
-use Rattle.interior.specs.Settled.{isOff}
 
 -- ---- one reading
-pub below-valued : (r : Reading) (t p : Float) → r ≡ Crossed t p → lt p (ofBits binary32 0) ≡ valued f32 quotients (told r)
-unfolding ofBits
-below-valued r t p e = rw e
-
-pub off-zero : (r : Reading) (t p : Float) → r ≡ Crossed t p → lt p (ofBits binary32 0) || lt (ofBits binary32 0) p ≡ isOff (told r)
-unfolding ofBits
-off-zero r t p e = rw e
+-- what holds of the kind that a reading is
+pub of-kind : (f : Told Float → Bool) (r s : Reading) → r ≡ s → f (told s) ≡ f (told r)
+of-kind f r s e = rw e
 
 pub seen-as : (r : Reading) (b u : Bool) (m : Notes)
     → b ≡ valued f32 quotients (told r) → u ≡ isUnsettled f32 quotients (told r) → m ≡ lookOf u → seen b m ≡ seenAs f32 quotients (told r)

@@ -5,7 +5,7 @@ use Prim.Native.Nat.{ℕ, _+_, _*_}
 abbrev pub major : ℕ
 major = 2
 
--- moves where something is added, as to what is counted
+-- moves where something is added: a function, a refusal, a kind of reading to what is counted
 abbrev pub minor : ℕ
 minor = 1
 

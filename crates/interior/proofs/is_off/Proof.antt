@@ -1,6 +1,8 @@
 -- `interior::is_off` is `isOff`.
 use borrow.Author.Needs.{needs}
-use Rattle.interior.proofs.Sights.{off-zero}
+use lib.Ieee.{ofBits}
+use Rattle.interior.specs.Settled.{isOff}
+use Rattle.interior.proofs.Sights.{of-kind}
 use Rattle.interior.proofs.is_off.Statement.{statement}
 use Rattle.interior.proofs.is_off.Tie as tie
 
@@ -23,7 +25,8 @@ returns-2 : tie.Need-returns-2
 returns-2 c = search needs
 
 returns-3 : tie.Need-returns-3
-returns-3 c = search off-zero
+unfolding ofBits
+returns-3 c = search (of-kind isOff)
 
 returns-4 : tie.Need-returns-4
 returns-4 c = search needs

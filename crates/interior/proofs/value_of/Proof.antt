@@ -1,6 +1,9 @@
 -- `interior::value_of` is `valued`.
 use borrow.Author.Needs.{needs}
-use Rattle.interior.proofs.Sights.{below-valued}
+use lib.Ieee.{ofBits}
+use Rattle.binary32.specs.Numbers.{f32}
+use Rattle.edge.specs.Edge.{quotients, valued}
+use Rattle.interior.proofs.Sights.{of-kind}
 use Rattle.interior.proofs.value_of.Statement.{statement}
 use Rattle.interior.proofs.value_of.Tie as tie
 
@@ -23,7 +26,8 @@ returns-2 : tie.Need-returns-2
 returns-2 c = search needs
 
 returns-3 : tie.Need-returns-3
-returns-3 c = search below-valued
+unfolding ofBits
+returns-3 c = search (of-kind (valued f32 quotients))
 
 returns-4 : tie.Need-returns-4
 returns-4 c = search needs
