@@ -9,6 +9,7 @@
 //   input BYTES SEED prints about so many bytes of input for the text program, of mixed families
 //   altered          says whether the cubes of such an input turn with every alteration of the tables
 //   text             the text program in plain Rust, over the Rust's handle_cube
+//   choices          all numbers of each choice of such an input: code, row, column, centre, unsettled, unmatched
 #[path = "choice/altered.rs"]
 mod altered;
 #[path = "choice/compare.rs"]
@@ -43,8 +44,9 @@ fn main() {
         (Some("input"), Some(bytes), Some(seed)) => text::input(bytes, seed),
         (Some("altered"), None, None) => altered::altered(),
         (Some("text"), None, None) => text::text(),
+        (Some("choices"), None, None) => text::choices(),
         _ => {
-            eprintln!("compare N SEED | speed | once COURSE | sample SEED | input BYTES SEED | altered | text");
+            eprintln!("compare N SEED | speed | once COURSE | sample SEED | input BYTES SEED | altered | text | choices");
             false
         }
     };

@@ -9,11 +9,12 @@
 #   oracle/choice.sh SOURCE altered < crates/mc33/stdin
 #   oracle/choice.sh SOURCE input 1000000 1 > INPUT
 #   oracle/choice.sh SOURCE text < crates/mc33/stdin > crates/mc33/stdout
+#   oracle/choice.sh SOURCE choices < crates/mc33/stdin
 set -euo pipefail
 here="$PWD"
 cd "$(dirname "$0")/.."
 case "${1-}" in
-    compare | speed | once | sample | altered | input | text | "") source=../shared/docs/src ;;
+    compare | speed | once | sample | altered | input | text | choices | "") source=../shared/docs/src ;;
     /*) source=$1; shift ;;
     *) source=$here/$1; shift ;;
 esac

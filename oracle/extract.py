@@ -31,6 +31,9 @@ LOOKUP, GIVEN = "CASES[self.cube.id as usize]", "self.cube.given"
 NOTES = {
     "handle_cube": [
         (r"let offset = SUB_CONFIG_13\[subconfig\].*", "self.note_sub_configuration(subconfig);", 1)],
+    "interior_ambiguity": [
+        (r"fn .* \{", "self.note_pick();", 1),
+        (r"edge = \d+;", "self.note_match();", 12)],
     "interior_ambiguity_verification": [
         (r"fn .* \{", "self.note_edge(edge);", 1),
         (r"let t = .*;", "self.note_t(t);", 12),

@@ -8,7 +8,9 @@ const TILED: usize = FAMILY + 256;
 const SUB_CONFIGURATION: usize = TILED + 39 * 48 * 12;
 const UNSETTLED: usize = SUB_CONFIGURATION + 2 * 64;
 const BLANK: usize = UNSETTLED + 15 * 4;
-const WAY: usize = BLANK + 15;
+const UNMATCHED: usize = BLANK + 15;
+const EDGE_0_MATCHED: usize = UNMATCHED + 15 * 4;
+const WAY: usize = EDGE_0_MATCHED + 15;
 const IN_CHOICE: usize = WAY + 2 * 6;
 const ALONE: usize = IN_CHOICE + 12 * 5;
 const FACE: usize = ALONE + 12 * 5;
@@ -42,12 +44,16 @@ pub fn met(rust: &Noted, choice: &Mc33Choice, mut meet: impl FnMut(usize)) {
     if rust.note.code != 0 {
         meet(tiled(choice.code as usize, choice.row as usize, choice.column as usize));
         meet(UNSETTLED + rust.case as usize * 4 + choice.unsettled as usize);
+        meet(UNMATCHED + rust.case as usize * 4 + choice.unmatched as usize);
     }
     if let Some(way) = rust.way.get() {
         meet(WAY + rust.config * 6 + way);
     }
-    for read in rust.made() {
+    for (matched, read) in rust.picks() {
         meet(reading(IN_CHOICE, read.edge, read.kind));
+        if matched && read.edge == 0 {
+            meet(EDGE_0_MATCHED + rust.case as usize);
+        }
         if read.is_blank() {
             meet(BLANK + rust.case as usize);
         }
@@ -79,8 +85,13 @@ pub fn wanted() -> Vec<(usize, String)> {
         for number in 0..=READINGS[case] {
             all.push((UNSETTLED + case * 4 + number, format!("case {case} unsettled {number}")));
         }
+        // The four pairs are the same for each face, so no pick has a match, or all have.
+        for number in [0, READINGS[case]] {
+            all.push((UNMATCHED + case * 4 + number, format!("case {case} unmatched {number}")));
+        }
         if READINGS[case] > 0 {
             all.push((BLANK + case, format!("case {case} blank")));
+            all.push((EDGE_0_MATCHED + case, format!("case {case} edge 0 by a match")));
         }
     }
     all.extend(wanted_readings(IN_CHOICE, "in a choice"));
@@ -152,9 +163,12 @@ pub fn print_met(counts: &[u64]) {
     println!("\n{FAMILIES} cases and configurations, least {least}");
     print_sub_configurations(counts);
     for case in [4, 6, 7, 10, 12] {
-        let (start, most) = (UNSETTLED + case * 4, READINGS[case]);
-        let (unsettled, blank) = (&counts[start..=start + most], counts[BLANK + case]);
+        let most = READINGS[case];
+        let numbers = |start: usize| &counts[start + case * 4..=start + case * 4 + most];
+        let (unsettled, blank) = (numbers(UNSETTLED), counts[BLANK + case]);
         println!("case {case}: unsettled 0 to {most}: {unsettled:?}; blank readings: {blank}");
+        let (unmatched, matched) = (numbers(UNMATCHED), counts[EDGE_0_MATCHED + case]);
+        println!("  unmatched 0 to {most}: {unmatched:?}; edge 0 by a match: {matched}");
     }
     print_readings(counts, IN_CHOICE, "readings in choices");
     print_readings(counts, ALONE, "readings alone");

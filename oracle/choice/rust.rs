@@ -204,6 +204,10 @@ impl<const ALTERED: bool> Counting<ALTERED> {
         self.unsettled.set(self.unsettled.get() + (product == 0.0 || is_nan(product)) as u8);
     }
 
+    fn note_pick(&self) {}
+
+    fn note_match(&self) {}
+
     fn note_edge(&self, _: i8) {}
 
     fn note_t(&self, _: f32) {}
@@ -281,7 +285,7 @@ fn within(value: f32) -> bool {
     value < 1.0 && value > 0.0
 }
 
-// The Rust with notes of its readings, of the way through the case-13 test and of the sub-configuration.
+// The Rust with notes of its picks and readings, of the way through the case-13 test and of the sub-configuration.
 pub struct Noted {
     pub cube: Cube,
     pub case: i8,
@@ -289,6 +293,8 @@ pub struct Noted {
     pub note: Note,
     centre: bool,
     pub sub_configuration: Option<usize>,
+    matched: [Cell<bool>; 3],
+    picked: Cell<usize>,
     readings: [Cell<Reading>; 3],
     made: Cell<usize>,
     pub way: Cell<Option<usize>>,
@@ -304,6 +310,8 @@ impl Noted {
             note: Note::default(),
             centre: false,
             sub_configuration: None,
+            matched: from_fn(|_| Cell::new(false)),
+            picked: Cell::new(0),
             readings: from_fn(|_| Cell::new(reading)),
             made: Cell::new(0),
             way: Cell::new(None),
@@ -314,6 +322,7 @@ impl Noted {
         self.note = Note::default();
         self.centre = false;
         self.sub_configuration = None;
+        self.picked.set(0);
         self.made.set(0);
         self.way.set(None);
     }
@@ -328,6 +337,16 @@ impl Noted {
 
     fn note_sub_configuration(&mut self, number: usize) {
         self.sub_configuration = Some(number);
+    }
+
+    fn note_pick(&self) {
+        let picked = self.picked.get();
+        self.matched[picked].set(false);
+        self.picked.set(picked + 1);
+    }
+
+    fn note_match(&self) {
+        self.matched[self.picked.get() - 1].set(true);
     }
 
     fn note_edge(&self, edge: i8) {
@@ -371,8 +390,20 @@ impl Noted {
         self.readings[..self.made.get()].iter().map(Cell::get)
     }
 
+    // Of each pick whether any pair matched.
+    fn picked(&self) -> impl Iterator<Item = bool> + '_ {
+        self.matched[..self.picked.get()].iter().map(Cell::get)
+    }
+
+    // Each pick with the reading of its edge.
+    pub fn picks(&self) -> impl Iterator<Item = (bool, Reading)> + '_ {
+        assert!(self.picked.get() == self.made.get(), "a pick without a reading: {:?}", self.cube.corners);
+        self.picked().zip(self.made())
+    }
+
     // The choice as the library should give it.
     pub fn choice(&self) -> Mc33Choice {
+        let unmatched = self.picked().filter(|matched| !matched).count() as u8;
         let unsettled = self.made().filter(Reading::is_unsettled).count() as u8;
         let Note { code, row, column } = self.note;
         match (code, self.sub_configuration) {
@@ -382,7 +413,7 @@ impl Noted {
                 Mc33Choice { code: 255, row, column, ..Mc33Choice::default() }
             }
             (0, None) => panic!("case {} has no tiling", self.case),
-            _ => Mc33Choice { refusal: 0, code, row, column, centre: self.centre as u8, unsettled },
+            _ => Mc33Choice { refusal: 0, code, row, column, centre: self.centre as u8, unsettled, unmatched },
         }
     }
 }

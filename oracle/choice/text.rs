@@ -1,7 +1,8 @@
 // The text program of document 01 in plain Rust, to measure ours by, and inputs for both.
 use crate::cubes::{suited, Random};
 use crate::families::{FAMILIES, GIVEN, SUITED};
-use crate::rust::{Counted, Cube};
+use crate::library::Mc33Choice;
+use crate::rust::{Both, Counted, Cube};
 use std::io::{stdin, stdout, BufRead, BufReader, BufWriter, Read, Result, Write};
 
 pub const INPUT_NAMES: &[u8] = b"case config c0 c1 c2 c3 c4 c5 c6 c7\n";
@@ -119,6 +120,16 @@ fn run() -> Result<()> {
 
 pub fn text() -> bool {
     run().is_ok()
+}
+
+// The numbers of each choice as the library should give them, for the cubes of an input.
+pub fn choices() -> bool {
+    let mut rust = Both::new();
+    for cube in sampled_cubes() {
+        let Mc33Choice { code, row, column, centre, unsettled, unmatched, .. } = rust.choice(&cube);
+        println!("{code} {row} {column} {centre} {unsettled} {unmatched}");
+    }
+    true
 }
 
 // The cubes of an input, up to a line that is none.

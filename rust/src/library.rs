@@ -14,6 +14,7 @@ pub struct Mc33Choice {
     pub column: u8,
     pub centre: u8,
     pub unsettled: u8,
+    pub unmatched: u8,
 }
 
 #[derive(Clone, Copy, Debug, PartialEq)]

@@ -4,3 +4,4 @@ mod Inner
 pub mod Ranges
 mod Starred
 mod Tested
+mod Unmatched

@@ -1,4 +1,4 @@
--- Every choice is in its ranges, and its plan hands on none but known faces and cases. Plans are data: one test computed over all of them says so of where
+-- Every choice is in its ranges, and its plan hands on none but known faces and cases and makes one interior test at most. Plans are data: one test computed over all of them says so of where
 -- each leads, and one induction that what a plan leads to is what is chosen, whatever the answers. Assumes nothing.
 use mathlib.Core.Path.{_≡_, refl, subst, sym}
 use mathlib.Core.Bool.{Bool, true, false, cond, _&&_}
@@ -16,8 +16,8 @@ use Rattle.cube.proofs.Table.{allUnder, under}
 use Rattle.notes.specs.declared.Notes.{Notes}
 use Rattle.notes.specs.Notes.{noNotes, added}
 use Rattle.interior.specs.declared.Sight.{Sight}
-use Rattle.interior.specs.Interior.{counted}
-use Rattle.interior.proofs.Bounds.{inside-bound}
+use Rattle.interior.specs.Pick.{areAmbiguousFaces}
+use Rattle.interior.proofs.Bounds.{Few, inside-bound}
 use Rattle.tilings.specs.Tilings.{configurations, tilingsOf, columnsOf, hasCentre}
 use Rattle.tilings.specs.Plan.{Plan, nothing, untiled, tile, ask, face, inside, inside13, askInTurn, Answers, Chosen, empty, noTiling, tiling, Reached, reach, settled, run}
 use Rattle.tilings.specs.Answers.{answersOf}
@@ -30,11 +30,11 @@ use Rattle.families.specs.Plans.{plan3, plan4, plan6, part7, plan7, plans, plan
 use Rattle.families.proofs.Families.{of-a-case}
 use Rattle.choice.specs.Choice.{isCase, isConfiguration, natOf, refusalOf, choiceOf, made, refused, answerOf}
 use Rattle.choice.specs.Inner.{handsOn}
-use Rattle.choice.specs.Ranges.{readings, holdsMinus1, placed, inRanges, saidInRanges}
+use Rattle.choice.specs.Ranges.{readings, holdsMinus1, placed, within, inRanges, saidInRanges}
 
 -- ---- what a plan leads to
 abbrev counts : ℕ → Notes
-counts n = record { unsettled = n }
+counts n = record { unsettled = n; unmatched = n }
 
 -- with `used` edge readings made, whatever the answers: what the plan leads to is in the ranges
 unfoldable fits : ℕ → ℕ → Plan → Bool
@@ -45,29 +45,40 @@ fits case used (ask (face n) p r) = fits case used p && fits case used r
 fits case used (ask (inside ns s) p r) = fits case (used + length ns) p && fits case (used + length ns) r
 fits case used (ask inside13 p r) = fits case used p && fits case used r
 
-fewer : (b : Bool) (m used n : ℕ) → m ≤ used → T (b && leb used n) → T (b && leb m n)
-fewer true m used n h t = le→leb m n (let l : used ≤ n = leb→le used n t in omega arith)
-fewer false m used n h t = t
+both : (a b : Bool) → T a → T b → T (a && b)
+both true b h l = l
+both false b h l = absurd h
 
-reached-in : (case used : ℕ) (x : Chosen) (m : Notes) → m .unsettled ≤ used → T (inRanges case (reach x (counts used))) → T (inRanges case (reach x m))
+fewer : (n used : ℕ) (m : Notes) → Few m used → T (within n (counts used)) → T (within n m)
+fewer n used m (h, i) t =
+    let l : used ≤ n = leb→le used n (and-l (leb used n) (leb used n) t) in
+    both (leb (m .unsettled) n) (leb (m .unmatched) n) (le→leb (m .unsettled) n (omega arith)) (le→leb (m .unmatched) n (omega arith))
+
+reached-in : (case used : ℕ) (x : Chosen) (m : Notes) → Few m used → T (inRanges case (reach x (counts used))) → T (inRanges case (reach x m))
 unfolding inRanges
-reached-in case used x m h t = fewer (placed case x) (m .unsettled) used (getD readings case 0) h t
+reached-in case used x m h t =
+    let n = getD readings case 0 in
+    both (placed case x) (within n m) (and-l (placed case x) (within n (counts used)) t) (fewer n used m h (and-r (placed case x) (within n (counts used)) t))
 
 either : (case : ℕ) (b : Bool) (x y : Reached) → T (inRanges case x) → T (inRanges case y) → T (inRanges case (cond b x y))
 either case true x y h l = h
 either case false x y h l = l
 
-inside-in : (case n used : ℕ) (f g : Notes → Reached) (m : Notes) (l : Sight) → m .unsettled ≤ used → counted l ≤ n
-    → ((k : Notes) → k .unsettled ≤ used + n → T (inRanges case (f k)))
-    → ((k : Notes) → k .unsettled ≤ used + n → T (inRanges case (g k)))
+few-added : (m l : Notes) (used n : ℕ) → Few m used → Few l n → Few (added m l) (used + n)
+few-added m l used n (h, i) (j, k) = (omega arith, omega arith)
+
+inside-in : (case n used : ℕ) (f g : Notes → Reached) (m : Notes) (l : Sight) → Few m used → Few (l .notes) n
+    → ((k : Notes) → Few k (used + n) → T (inRanges case (f k)))
+    → ((k : Notes) → Few k (used + n) → T (inRanges case (g k)))
     → T (inRanges case (settled l f g m))
 unfolding settled
 inside-in case n used f g m l h c p r =
     let k = added m (l .notes) in
-    either case (l .hit) (f k) (g k) (p k (omega arith)) (r k (omega arith))
+    let few = few-added m (l .notes) used n h c in
+    either case (l .hit) (f k) (g k) (p k few) (r k few)
 
-module _ (case : ℕ) (w : Answers) (few : (ns : List ℕ) (s : ℤ) → counted (w .insides ns s) ≤ length ns) where
-  run-in : (used : ℕ) (p : Plan) (m : Notes) → m .unsettled ≤ used → T (fits case used p) → T (inRanges case (run w p m))
+module _ (case : ℕ) (w : Answers) (few : (ns : List ℕ) (s : ℤ) → Few (w .insides ns s .notes) (length ns)) where
+  run-in : (used : ℕ) (p : Plan) (m : Notes) → Few m used → T (fits case used p) → T (inRanges case (run w p m))
   unfolding fits run
   run-in used nothing m h t = reached-in case used empty m h t
   run-in used (untiled c sub) m h t = reached-in case used (noTiling c sub) m h t
@@ -86,22 +97,42 @@ module _ (case : ℕ) (w : Answers) (few : (ns : List ℕ) (s : ℤ) → counted
       (run-in used p m h (and-l (fits case used p) (fits case used r) t))
       (run-in used r m h (and-r (fits case used p) (fits case used r) t))
 
+-- ---- how many interior tests it makes, whatever the answers: none, or one at most, for n ambiguous faces
+unfoldable pub asksNone : Plan → Bool
+asksNone nothing = true
+asksNone (untiled c sub) = true
+asksNone (tile code row column) = true
+asksNone (ask (face n) p r) = asksNone p && asksNone r
+asksNone (ask (inside ns s) p r) = false
+asksNone (ask inside13 p r) = asksNone p && asksNone r
+
+unfoldable pub asksOnce : ℕ → Plan → Bool
+asksOnce n nothing = true
+asksOnce n (untiled c sub) = true
+asksOnce n (tile code row column) = true
+asksOnce n (ask (face k) p r) = asksOnce n p && asksOnce n r
+asksOnce n (ask (inside ns s) p r) = (areAmbiguousFaces ns && eqb (length ns) n) && (asksNone p && asksNone r)
+asksOnce n (ask inside13 p r) = asksOnce n p && asksOnce n r
+
 -- ---- all plans
+abbrev asks : ℕ → Plan → Bool
+asks case p = handsOn case p && asksOnce (getD readings case 0) p
+
 abbrev fitsIn : ℕ → Plan → Bool
-fitsIn case p = fits case 0 p && handsOn case p
+fitsIn case p = fits case 0 p && asks case p
 
 fitsAt : ℕ → ℕ → Bool
 fitsAt case c = fitsIn case (planOf case c)
 
 all-fit : T (allUnder 15 (λ case. allUnder (getD configurations case 0) (fitsAt case)))
-unfolding fitsAt fits handsOn inRanges placed readings holdsMinus1 tilingsOf configurations columnsOf hasCentre planOf plans plan3 plan4 plan6 part7 plan7 twoFaces plan10 plan12 parts13 lastFrom tile13 part13 plan13 askInTurn «TEST_3» «TEST_4» «TEST_6» «TEST_7» «TEST_10» «TEST_12» «TEST_13» «SUB_CONFIG_13»
+unfolding fitsAt fits handsOn asksNone asksOnce inRanges placed readings holdsMinus1 tilingsOf configurations columnsOf hasCentre planOf plans plan3 plan4 plan6 part7 plan7 twoFaces plan10 plan12 parts13 lastFrom tile13 part13 plan13 askInTurn «TEST_3» «TEST_4» «TEST_6» «TEST_7» «TEST_10» «TEST_12» «TEST_13» «SUB_CONFIG_13»
 all-fit = tt
 
 plan-fits : (case c : ℕ) → c < getD configurations case 0 → T (fitsAt case c)
 plan-fits case c l = under (getD configurations case 0) (fitsAt case) (under 15 (λ k. allUnder (getD configurations k 0) (fitsAt k)) all-fit case (of-a-case l)) c l
 
 nothing-fits : (case : ℕ) → T (eqb case 0) → T (fitsAt case 0)
-unfolding fitsAt planOf plans fits handsOn inRanges placed readings
+unfolding fitsAt planOf plans fits handsOn asksOnce inRanges placed readings
 nothing-fits case e = subst (λ (k : ℕ). T (fitsAt k 0)) (sym (eqb→eq case 0 e)) tt
 
 -- ---- past refusals 1, 2 and 3
@@ -124,13 +155,19 @@ module _ (x y : ℤ) (q : Cube) (e : refusalOf x y q ≡ 0) where
   abbrev plan : Plan
   plan = planOf (natOf x) (natOf y)
 
-  pub hands-on : T (handsOn (natOf x) plan)
+  asked-so : T (asks (natOf x) plan)
   unfolding fitsAt
-  hands-on = and-r (fits (natOf x) 0 plan) (handsOn (natOf x) plan) (fits-past x y q e)
+  asked-so = and-r (fits (natOf x) 0 plan) (asks (natOf x) plan) (fits-past x y q e)
+
+  pub hands-on : T (handsOn (natOf x) plan)
+  hands-on = and-l (handsOn (natOf x) plan) (asksOnce (getD readings (natOf x) 0) plan) asked-so
+
+  pub asks-once : T (asksOnce (getD readings (natOf x) 0) plan)
+  asks-once = and-r (handsOn (natOf x) plan) (asksOnce (getD readings (natOf x) 0) plan) asked-so
 
   pub choice-in : T (inRanges (natOf x) (choiceOf x y q))
   unfolding fitsAt choiceOf
-  choice-in = run-in (natOf x) (answersOf q) (inside-bound q) 0 plan noNotes (omega arith) (and-l (fits (natOf x) 0 plan) (handsOn (natOf x) plan) (fits-past x y q e))
+  choice-in = run-in (natOf x) (answersOf q) (inside-bound q) 0 plan noNotes (lit≤ tt, lit≤ tt) (and-l (fits (natOf x) 0 plan) (asks (natOf x) plan) (fits-past x y q e))
 
 -- ---- or refused
 said-in : (case : ℕ) (a b d : Bool) (r : Reached)
@@ -159,5 +196,7 @@ few-readings case = all-few readings case tt
 pub few-unsettled : (case : ℕ) (r : Reached) → T (inRanges case r) → r .notes .unsettled ≤ 3
 unfolding inRanges
 few-unsettled case r h =
-    let l = leb→le (r .notes .unsettled) (getD readings case 0) (and-r (placed case (r .choice)) (leb (r .notes .unsettled) (getD readings case 0)) h) in
+    let n = getD readings case 0 in
+    let t = and-r (placed case (r .choice)) (within n (r .notes)) h in
+    let l = leb→le (r .notes .unsettled) n (and-l (leb (r .notes .unsettled) n) (leb (r .notes .unmatched) n) t) in
     omega (arith, l, few-readings case)

@@ -4,7 +4,7 @@ use lib.Ieee.{ofBits, neg, add, sub, mul, div, lt, eq, le, isNan, ofInt}
 use Rattle.cube.specs.Corners.{corners, valueAt, cornerOf, allFinite}
 use Rattle.face.specs.Face.{faceCorners, faceCorner, rule, faceBy, faceOf}
 use Rattle.edge.specs.Edge.{moves, moveOf, crossBy, readBy, edgeBy}
-use Rattle.interior.specs.Pick.{diagonals, lastMatch, pickWith, pickBy}
+use Rattle.interior.specs.Pick.{diagonals, lastMatch, anyMatch, pickWith, pickBy}
 use Rattle.interior.specs.Interior.{joined, seenAs, lookAt, insideBy, insideOf}
 use Rattle.tilings.specs.Tilings.{configurations, hasCentre}
 use Rattle.tilings.specs.Plan.{askInTurn, settled, run}
@@ -18,5 +18,5 @@ use Rattle.choice.specs.Choice.{refusalOf, choiceOf, answerOf}
 use Rattle.choice.specs.Starred.{stars, StarredCubes}
 
 pub starred : StarredCubes
-unfolding stars answerOf refusalOf choiceOf run settled askInTurn planOf plans plan3 plan4 part7 plan7 twoFaces plan10 plan12 parts13 lastFrom tile13 part13 plan13 «TEST_3» «TEST_4» «TEST_7» «TEST_10» «TEST_12» «TEST_13» «SUB_CONFIG_13» configurations hasCentre faceOf faceBy rule faceCorner faceCorners insideOf insideBy joined lookAt seenAs pickBy pickWith lastMatch diagonals edgeBy readBy crossBy moveOf moves cornerOf valueAt corners allFinite ofBits neg add sub mul div lt eq le isNan ofInt
+unfolding stars answerOf refusalOf choiceOf run settled askInTurn planOf plans plan3 plan4 part7 plan7 twoFaces plan10 plan12 parts13 lastFrom tile13 part13 plan13 «TEST_3» «TEST_4» «TEST_7» «TEST_10» «TEST_12» «TEST_13» «SUB_CONFIG_13» configurations hasCentre faceOf faceBy rule faceCorner faceCorners insideOf insideBy joined lookAt seenAs pickBy pickWith lastMatch anyMatch diagonals edgeBy readBy crossBy moveOf moves cornerOf valueAt corners allFinite ofBits neg add sub mul div lt eq le isNan ofInt
 starred = refl

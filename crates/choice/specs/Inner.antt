@@ -3,7 +3,7 @@
 use Prim.Native.Nat.{ℕ, _-_, _≤_, _<_}
 use mathlib.Core.Path.{_≡_}
 use mathlib.Core.Bool.{Bool, true, _&&_}
-use mathlib.Core.List.{List, [], _∷_, map, foldr}
+use mathlib.Core.List.{List, [], _∷_, map}
 use lib.IntN.{ℤ, pos, negsuc}
 use lib.Dec.{T, leb, ltb, eqb}
 use lib.ListN.{getD, length}
@@ -11,7 +11,7 @@ use Rattle.cube.specs.declared.Cube.{Cube}
 use Rattle.cube.specs.Bits.{numberOf}
 use Rattle.face.specs.Face.{isFace, faceOf}
 use Rattle.notes.specs.Notes.{noNotes}
-use Rattle.interior.specs.Pick.{Diagonal, pickWith}
+use Rattle.interior.specs.Pick.{areAmbiguousFaces, Diagonal, pickWith}
 use Rattle.tilings.specs.Tilings.{isOneOf, columnsOf}
 use Rattle.tilings.specs.Plan.{Question, face, inside, inside13, Plan, nothing, untiled, tile, ask, Reached, run}
 use Rattle.tilings.specs.Answers.{answersOf}
@@ -23,7 +23,7 @@ use Rattle.choice.specs.Choice.{natOf, refusalOf}
 -- a signed face is one of the six; the interior test is made for a case that it knows, and for ambiguous faces 1 to 6; the case-13 test for case 13
 abbrev asksFor : ℕ → Question → Bool
 asksFor case (face n) = isFace n
-asksFor case (inside ns s) = isOneOf case (4 ∷ 6 ∷ 7 ∷ 10 ∷ 12 ∷ []) && foldr _&&_ true (map (λ n. leb 1 n && leb n 6) ns)
+asksFor case (inside ns s) = isOneOf case (4 ∷ 6 ∷ 7 ∷ 10 ∷ 12 ∷ []) && areAmbiguousFaces ns
 asksFor case inside13 = eqb case 13
 
 -- whatever the answers, a case's plan hands on such questions alone
@@ -52,5 +52,5 @@ pub record InnerNumbers : Type 0 where
   pub sub13 : (q : Cube) (c : ℕ) → SubBelow q (faces13 c) (length «SUB_CONFIG_13») (plan13 c) (partAt13 c)
   pub offsets : (sub : ℕ) → sub < length «SUB_CONFIG_13» → T (isOffset (getD «SUB_CONFIG_13» sub (negsuc 0)))
   -- whichever pairs match
-  pub edges : (matches : Diagonal → Bool) (n : ℕ) → n ≤ 6 → pickWith matches n < 12
+  pub edges : (matches : Diagonal → Bool) (n : ℕ) → n ≤ 6 → pickWith matches n .edge < 12
   pub asked : (case configuration : ℤ) (q : Cube) → refusalOf case configuration q ≡ 0 → T (handsOn (natOf case) (planOf (natOf case) (natOf configuration)))

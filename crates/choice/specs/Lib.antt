@@ -3,3 +3,4 @@ pub mod Inner
 pub mod Kin
 pub mod Ranges
 pub mod Starred
+pub mod Unmatched

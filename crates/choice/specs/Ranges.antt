@@ -5,6 +5,7 @@ use mathlib.Core.List.{List, [], _∷_}
 use lib.IntN.{ℤ, pos, negsuc}
 use lib.Dec.{eqb, ltb, leb}
 use lib.ListN.{getD}
+use Rattle.notes.specs.declared.Notes.{Notes}
 use Rattle.tilings.specs.Tilings.{configurations, tilingsOf, isOneOf, columnsOf, hasCentre}
 use Rattle.tilings.specs.Plan.{Chosen, empty, noTiling, tiling, Reached}
 use Rattle.family_13.specs.Tables.{«SUB_CONFIG_13»}
@@ -34,9 +35,12 @@ placed case (tiling code row column centre) =
     && ltb column (columnsOf code)
     && Bool·beq centre (hasCentre code)
 
--- and no more unsettled than edge readings
+-- no more unsettled than edge readings, and no more picks without a match
+abbrev pub within : ℕ → Notes → Bool
+within n m = leb (m .unsettled) n && leb (m .unmatched) n
+
 unfoldable pub inRanges : ℕ → Reached → Bool
-inRanges case r = placed case (r .choice) && leb (r .notes .unsettled) (getD readings case 0)
+inRanges case r = placed case (r .choice) && within (getD readings case 0) (r .notes)
 
 -- or one of the refusals of a choice
 unfoldable pub saidInRanges : ℕ → Said → Bool

@@ -23,9 +23,9 @@ pub record Star : Type 0 where
   pub q : Cube
   pub says : Said
 
--- a tiling of column 0 and without the centre
+-- a tiling of column 0 and without the centre; each pick has a match
 abbrev star : ℕ → ℕ → Cube → ℕ → ℕ → ℕ → Star
-star case c q code row unsettled = record { case = case; configuration = c; q = q; says = made (reach (tiling code row 0 false) (record { unsettled = unsettled })) }
+star case c q code row unsettled = record { case = case; configuration = c; q = q; says = made (reach (tiling code row 0 false) (record { unsettled = unsettled; unmatched = 0 })) }
 
 unfoldable pub stars : List Star
 stars =

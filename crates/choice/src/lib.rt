@@ -15,6 +15,7 @@ ghost use Rattle.choice.specs.Inner.{InnerNumbers};
 ghost use Rattle.choice.specs.Kin.{kin, kinOf};
 ghost use Rattle.choice.specs.Ranges.{saidInRanges};
 ghost use Rattle.choice.specs.Starred.{StarredCubes};
+ghost use Rattle.choice.specs.Unmatched.{NoneOrAll};
 use cube::Cube;
 use cube::Refusal;
 use cube::Split;
@@ -106,6 +107,7 @@ pub fn handle_cube(case: i8, configuration: i8, q: Cube) -> Answer
     ensures ranges { λ r. ⌜ T (saidInRanges (natOf case) (said r)) ⌝ }
     ensures starred { λ r. ⌜ StarredCubes ⌝ }
     ensures inner { λ r. ⌜ InnerNumbers ⌝ }
+    ensures unmatched { λ r. ⌜ NoneOrAll ⌝ }
 {
     match family_of(case, configuration) {
         Family::Nothing => {

@@ -1,6 +1,6 @@
 -- The interior test of one, two or three faces, from what is seen at each. Assumes nothing.
 use mathlib.Core.Path.{_≡_, refl, ap, _∙_}
-use mathlib.Core.Bool.{false}
+use mathlib.Core.Bool.{Bool, false}
 use mathlib.Core.List.{List, [], _∷_, map, foldr}
 use Prim.Native.Nat.{ℕ, _+_, _≤_}
 use native.Mathlib.Omega.{arith}
@@ -23,29 +23,29 @@ use Rattle.interior.proofs.Picks.{same-picks}
 use Rattle.interior.proofs.Sights.{looked-at, joined-none}
 
 -- there is room to join two, and one to two that are joined
-module _ (t u : Told Float) (x y : Sight) (ex : x ≡ seenAs f32 quotients t) (ey : y ≡ seenAs f32 quotients u) where
+module _ (a b : Bool) (t u : Told Float) (x y : Sight) (ex : x ≡ seenAs f32 quotients a t) (ey : y ≡ seenAs f32 quotients b u) where
   pub room-for-two : counted x + counted y ≤ 255
-  room-for-two = rw (ex, ey) (omega (arith, counted-look f32 quotients t, counted-look f32 quotients u))
+  room-for-two = rw (ex, ey) (omega (arith, counted-look f32 quotients a t, counted-look f32 quotients b u))
 
-  pub room-for-three : (v : Told Float) (z r : Sight) → z ≡ seenAs f32 quotients v → r ≡ joined x y → counted z + counted r ≤ 255
-  room-for-three v z r ez er =
+  pub room-for-three : (c : Bool) (v : Told Float) (z r : Sight) → z ≡ seenAs f32 quotients c v → r ≡ joined x y → counted z + counted r ≤ 255
+  room-for-three c v z r ez er =
       rw (er, ex, ey, ez)
       (omega
-      (arith, counted-look f32 quotients t, counted-look f32 quotients u, counted-look f32 quotients v, counted-joined (seenAs f32 quotients t) (seenAs f32 quotients u)))
+      (arith, counted-look f32 quotients a t, counted-look f32 quotients b u, counted-look f32 quotients c v, counted-joined (seenAs f32 quotients a t) (seenAs f32 quotients b u)))
 
 module _ (vs : List Float) (d : Diagonals) where
   -- what the code looks at for a face
   abbrev at : ℕ → Sight
   at n = lookAt f32 quotients (valueAt vs) (pickWith (heldBy d) n)
 
-  pub seen-at : (k : ℕ) (e : ℤ) (m : Moves) (x : Sight)
-      → e ≡ pos (pickWith (heldBy d) k) → m ≡ movesOf (valueAt vs) e → x ≡ seenAs f32 quotients (readOf m) → x ≡ at k
-  seen-at k e m x ee em ex = looked-at (valueAt vs) (pickWith (heldBy d) k) m x (em ∙ ap (movesOf (valueAt vs)) ee) ex
+  pub seen-at : (k : ℕ) (e : ℤ) (b : Bool) (m : Moves) (x : Sight)
+      → e ≡ pos (pickWith (heldBy d) k .edge) → b ≡ pickWith (heldBy d) k .matched → m ≡ movesOf (valueAt vs) e → x ≡ seenAs f32 quotients b (readOf m) → x ≡ at k
+  seen-at k e b m x ee eb em ex = looked-at (valueAt vs) (pickWith (heldBy d) k) b m x eb (em ∙ ap (movesOf (valueAt vs)) ee) ex
 
   module _ (q : Cube) (s : ℤ) (ev : vs ≡ corners q) (ed : d ≡ diagonalsOf q s) where
     same-look : (n : ℕ) → at n ≡ lookAt f32 quotients (cornerOf q) (pickBy f32 (cornerOf q) s n)
     unfolding cornerOf
-    same-look n = rw (ev, ed, same-picks q s n)
+    same-look n = rw (ev, ed, same-picks f32 (cornerOf q) s n)
 
     same-looks : (ns : List ℕ) → foldr joined (seen false noNotes) (map at ns) ≡ insideOf q ns s
     unfolding insideOf insideBy

@@ -4,3 +4,4 @@ mod Insides
 pub mod Picks
 mod Settled
 mod Sights
+pub mod Unmatched

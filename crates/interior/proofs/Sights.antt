@@ -2,7 +2,6 @@
 use mathlib.Core.Path.{_≡_, ap}
 use mathlib.Core.Bool.{Bool, false, _||_, or-false}
 use Prim.Native.Nat.{ℕ}
-use native.Mathlib.Nat.{add-zero}
 use lib.IntN.{pos}
 use lib.Ieee.{Float}
 use Rattle.binary32.specs.Numbers.{f32}
@@ -12,7 +11,9 @@ use Rattle.edge.specs.declared.Moves.{Moves}
 use Rattle.edge.specs.Moves.{movesOf, readOf}
 use Rattle.notes.specs.declared.Notes.{Notes}
 use Rattle.notes.specs.Notes.{noNotes, lookOf, added}
+use Rattle.notes.proofs.Sums.{added-none}
 use Rattle.interior.specs.declared.Sight.{Sight}
+use Rattle.interior.specs.Pick.{Picked}
 use Rattle.interior.specs.Interior.{seen, isUnsettled, seenAs, lookAt, joined}
 
 -- ---- one reading
@@ -20,15 +21,16 @@ use Rattle.interior.specs.Interior.{seen, isUnsettled, seenAs, lookAt, j
 pub of-kind : (f : Told Float → Bool) (r s : Reading) → r ≡ s → f (told s) ≡ f (told r)
 of-kind f r s e = rw e
 
-pub seen-as : (r : Reading) (b u : Bool) (m : Notes)
-    → b ≡ valued f32 quotients (told r) → u ≡ isUnsettled f32 quotients (told r) → m ≡ lookOf u → seen b m ≡ seenAs f32 quotients (told r)
+pub seen-as : (r : Reading) (matched b u : Bool) (m : Notes)
+    → b ≡ valued f32 quotients (told r) → u ≡ isUnsettled f32 quotients (told r) → m ≡ lookOf u matched → seen b m ≡ seenAs f32 quotients matched (told r)
 unfolding seenAs
-seen-as r b u m e h n = rw (e, n, h)
+seen-as r matched b u m e h n = rw (e, n, h)
 
 -- ---- the reading at the edge picked
-pub looked-at : (corner : ℕ → Float) (n : ℕ) (m : Moves) (x : Sight) → m ≡ movesOf corner (pos n) → x ≡ seenAs f32 quotients (readOf m) → x ≡ lookAt f32 quotients corner n
+pub looked-at : (corner : ℕ → Float) (p : Picked) (matched : Bool) (m : Moves) (x : Sight)
+    → matched ≡ p .matched → m ≡ movesOf corner (pos (p .edge)) → x ≡ seenAs f32 quotients matched (readOf m) → x ≡ lookAt f32 quotients corner p
 unfolding lookAt edgeBy movesOf readOf
-looked-at corner n m x em ex = rw (ex, em)
+looked-at corner p matched m x ep em ex = rw (ex, em, ep)
 
 -- ---- two joined
 pub seen-both : (x y : Sight) (k : Notes) → k ≡ added (x .notes) (y .notes) → seen (x .hit || y .hit) k ≡ joined x y
@@ -38,4 +40,4 @@ seen-both x y k e = ap (seen (x .hit || y .hit)) e
 -- nothing seen joins to nothing more
 pub joined-none : (x : Sight) → joined x (seen false noNotes) ≡ x
 unfolding joined
-joined-none x = λ i. seen (or-false (x .hit) i) (record { unsettled = add-zero (x .notes .unsettled) i })
+joined-none x = λ i. seen (or-false (x .hit) i) (added-none (x .notes) i)

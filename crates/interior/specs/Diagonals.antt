@@ -5,7 +5,7 @@ use mathlib.Core.List.{[], _∷_}
 use lib.Dec.{ltb, eqb}
 use lib.IntN.{ℤ}
 use lib.ListN.{getD}
-use Rattle.binary32.specs.Numbers.{f32}
+use Rattle.binary32.specs.Numbers.{Numbers, f32}
 use Rattle.cube.specs.declared.Cube.{Cube}
 use Rattle.cube.specs.Bits.{numberOf}
 use Rattle.cube.specs.Corners.{cornerOf}
@@ -13,13 +13,16 @@ use Rattle.interior.specs.declared.Diagonals.{Diagonals}
 use Rattle.interior.specs.Pick.{Diagonal, pair, matchesBy}
 
 -- which of the four pairs match
-unfoldable pub diagonalsOf : Cube → ℤ → Diagonals
-diagonalsOf q s = record {
-  from0 = matchesBy f32 (cornerOf q) s (pair 0 6 0);
-  from1 = matchesBy f32 (cornerOf q) s (pair 1 7 0);
-  from2 = matchesBy f32 (cornerOf q) s (pair 2 4 0);
-  from3 = matchesBy f32 (cornerOf q) s (pair 3 5 0);
+unfoldable pub diagonalsBy : (K : Numbers) → (ℕ → K .N) → ℤ → Diagonals
+diagonalsBy K corner s = record {
+  from0 = matchesBy K corner s (pair 0 6 0);
+  from1 = matchesBy K corner s (pair 1 7 0);
+  from2 = matchesBy K corner s (pair 2 4 0);
+  from3 = matchesBy K corner s (pair 3 5 0);
 }
+
+abbrev pub diagonalsOf : Cube → ℤ → Diagonals
+diagonalsOf q s = diagonalsBy f32 (cornerOf q) s
 
 unfoldable pub heldBy : Diagonals → Diagonal → Bool
 heldBy d p = getD (d .from0 ∷ d .from1 ∷ d .from2 ∷ d .from3 ∷ []) (p .one) false

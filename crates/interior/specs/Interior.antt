@@ -11,7 +11,7 @@ use Rattle.edge.specs.Edge.{Told, rising, beyond, crossed, blank, Quotients, va
 use Rattle.notes.specs.declared.Notes.{Notes}
 use Rattle.notes.specs.Notes.{noNotes, lookOf, added, total}
 use Rattle.interior.specs.declared.Sight.{Sight}
-use Rattle.interior.specs.Pick.{pickBy}
+use Rattle.interior.specs.Pick.{Picked, pickBy}
 
 -- whether a value was 1, with what was counted
 abbrev pub seen : Bool → Notes → Sight
@@ -32,12 +32,13 @@ module _ (K : Numbers) (D : Quotients K) where
   isUnsettled (crossed t p) = nought p
   isUnsettled blank = true
 
-  unfoldable pub seenAs : Told Q → Sight
-  seenAs r = seen (valued K D r) (lookOf (isUnsettled r))
+  -- what a reading says, with whether a pair matched where its edge was picked
+  unfoldable pub seenAs : Bool → Told Q → Sight
+  seenAs matched r = seen (valued K D r) (lookOf (isUnsettled r) matched)
 
   -- what is read at the edge that is picked
-  unfoldable pub lookAt : (ℕ → N) → ℕ → Sight
-  lookAt corner edge = seenAs (edgeBy K D corner (pos edge))
+  unfoldable pub lookAt : (ℕ → N) → Picked → Sight
+  lookAt corner p = seenAs (p .matched) (edgeBy K D corner (pos (p .edge)))
 
   -- true if any reading's value is 1; all readings are made
   unfoldable pub insideBy : (ℕ → N) → List ℕ → ℤ → Sight

@@ -33,6 +33,13 @@ pub struct Sight {
     pub notes: Notes,
 }
 
+// What the diagonal pick picks: the edge, and whether any pair matched. Edge 0 may be picked by a match, or be left
+// over where there is none.
+struct Pick {
+    pub edge: EdgeNo,
+    pub matched: bool,
+}
+
 // Which of the pairs (0,6), (1,7), (2,4) and (3,5) match.
 struct Diagonals {
     pub from0: bool,
@@ -75,12 +82,18 @@ fn edges(n: u32) -> u64
 }
 
 // The diagonal pick, from the pairs that match: with those of `diagonals_of`, document 01's.
-fn interior_ambiguity(d: Diagonals, face: AmbiguousFace) -> EdgeNo
+fn interior_ambiguity(d: Diagonals, face: AmbiguousFace) -> Pick
     requires { ⌜ IsAmbiguousFace (face .0) ⌝ }
-    ensures pick { λ r. ⌜ r .0 ≡ pos (pickWith (heldBy d) (face .0)) ⌝ }
-    ensures edge { λ r. ⌜ T (isEdge (r .0)) ⌝ }
+    ensures pick { λ r. ⌜ r .edge .0 ≡ pos (pickWith (heldBy d) (face .0) .edge) ⌝ }
+    ensures edge { λ r. ⌜ T (isEdge (r .edge .0)) ⌝ }
+    ensures matched { λ r. ⌜ r .matched ≡ pickWith (heldBy d) (face .0) .matched ⌝ }
 {
-    EdgeNo(((edges(face.0) >> (4 * set_of(d))) % 16) as i8)
+    let set = set_of(d);
+    let edge = (edges(face.0) >> (4 * set)) % 16;
+    Pick {
+        edge: EdgeNo(edge as i8),
+        matched: set != 0,
+    }
 }
 
 // Whether a reading's value is 1.
@@ -128,22 +141,22 @@ fn is_unsettled(r: Reading) -> bool
     !(is_past(r) | is_off(r))
 }
 
-// What a reading says: whether its value is 1, and what it counts.
-fn sight_of(r: Reading) -> Sight
+// What a reading says: whether its value is 1, and what it and the pick of its edge count.
+fn sight_of(r: Reading, matched: bool) -> Sight
     requires { ⌜ T (isReal (told r)) ⌝ }
-    ensures { λ x. ⌜ x ≡ seenAs f32 quotients (told r) ⌝ }
+    ensures { λ x. ⌜ x ≡ seenAs f32 quotients matched (told r) ⌝ }
 {
     Sight {
         hit: value_of(r),
-        notes: notes::look(is_unsettled(r)),
+        notes: notes::look(is_unsettled(r), matched),
     }
 }
 
-// What is read by the moves of an edge.
-fn look(m: Moves) -> Sight
-    ensures { λ r. ⌜ r ≡ seenAs f32 quotients (readOf m) ⌝ }
+// What is read by the moves of an edge, and whether a pair matched where the edge was picked.
+fn look(m: Moves, matched: bool) -> Sight
+    ensures { λ r. ⌜ r ≡ seenAs f32 quotients matched (readOf m) ⌝ }
 {
-    sight_of(edge::read(m))
+    sight_of(edge::read(m), matched)
 }
 
 // Two sights as one: true if any, the counts added.
@@ -163,8 +176,8 @@ pub fn test_interior(q: Cube, k: AmbiguousFace, side: Side) -> Sight
     ensures { λ r. ⌜ r ≡ insideOf q (k .0 ∷ []) (side .0) ⌝ }
 {
     let values = cube::values(q);
-    let e = interior_ambiguity(diagonals_of(q, side), k);
-    look(edge::moves_of(&values, e))
+    let p = interior_ambiguity(diagonals_of(q, side), k);
+    look(edge::moves_of(&values, p.edge), p.matched)
 }
 
 // For two faces, of case 12. All readings are made.
@@ -174,11 +187,11 @@ pub fn test_interior_two(q: Cube, k: AmbiguousFace, l: AmbiguousFace, side: Side
 {
     let values = cube::values(q);
     let d = diagonals_of(q, side);
-    let e = interior_ambiguity(d, k);
-    let f = interior_ambiguity(d, l);
+    let p = interior_ambiguity(d, k);
+    let r = interior_ambiguity(d, l);
     join(
-        look(edge::moves_of(&values, e)),
-        look(edge::moves_of(&values, f)),
+        look(edge::moves_of(&values, p.edge), p.matched),
+        look(edge::moves_of(&values, r.edge), r.matched),
     )
 }
 
@@ -188,12 +201,12 @@ pub fn test_interior_three(q: Cube, side: Side) -> Sight
 {
     let values = cube::values(q);
     let d = diagonals_of(q, side);
-    let e1 = interior_ambiguity(d, AmbiguousFace(1));
-    let e2 = interior_ambiguity(d, AmbiguousFace(2));
-    let e5 = interior_ambiguity(d, AmbiguousFace(5));
+    let p1 = interior_ambiguity(d, AmbiguousFace(1));
+    let p2 = interior_ambiguity(d, AmbiguousFace(2));
+    let p5 = interior_ambiguity(d, AmbiguousFace(5));
     let rest = join(
-        look(edge::moves_of(&values, e2)),
-        look(edge::moves_of(&values, e5)),
+        look(edge::moves_of(&values, p2.edge), p2.matched),
+        look(edge::moves_of(&values, p5.edge), p5.matched),
     );
-    join(look(edge::moves_of(&values, e1)), rest)
+    join(look(edge::moves_of(&values, p1.edge), p1.matched), rest)
 }

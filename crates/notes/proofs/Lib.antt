@@ -1,1 +1,2 @@
 mod Looks
+pub mod Sums

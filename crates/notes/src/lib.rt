@@ -1,26 +1,29 @@
-// What a choice counts on its way: document 01, 'A choice'. `none`, `look` and `add` alone set the fields; they are read
+// What a choice counts on its way: document 01, 'A choice', and document 02, Change 4. `none`, `look` and `add` alone set the fields; they are read
 // where an answer is written.
 ghost use mathlib.Core.Path.{_≡_};
 ghost use Prim.Native.Nat.{_+_, _≤_};
 ghost use Rattle.notes.specs.Notes.{noNotes, lookOf, added, total};
 
-// Unsettled: the edge readings that are crossed with product zero or blank (document 02, Change 2).
+// Unsettled: the edge readings that are crossed with product zero or blank (document 02, Change 2). Unmatched: the
+// diagonal picks without a match (Change 4).
 pub struct Notes {
     pub unsettled: u8,
+    pub unmatched: u8,
 }
 
 pub fn none() -> Notes
     ensures { λ r. ⌜ r ≡ noNotes ⌝ }
 {
-    Notes { unsettled: 0 }
+    Notes { unsettled: 0, unmatched: 0 }
 }
 
-// What an edge reading counts.
-pub fn look(unsettled: bool) -> Notes
-    ensures { λ r. ⌜ r ≡ lookOf unsettled ⌝ }
+// What an edge reading counts, with the pick of its edge.
+pub fn look(unsettled: bool, matched: bool) -> Notes
+    ensures { λ r. ⌜ r ≡ lookOf unsettled matched ⌝ }
 {
     Notes {
         unsettled: unsettled as u8,
+        unmatched: !matched as u8,
     }
 }
 
@@ -30,5 +33,6 @@ pub fn add(x: Notes, y: Notes) -> Notes
 {
     Notes {
         unsettled: x.unsettled + y.unsettled,
+        unmatched: x.unmatched + y.unmatched,
     }
 }

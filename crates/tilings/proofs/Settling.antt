@@ -1,14 +1,14 @@
 -- Where an interior test leads. Assumes nothing.
-use mathlib.Core.Path.{_≡_, ap}
+use mathlib.Core.Path.{_≡_}
 use mathlib.Core.Bool.{Bool, true, false}
 use Prim.Native.Nat.{ℕ}
-use native.Mathlib.Omega.{arith}
 use lib.IntN.{ℤ, negsuc, natAbs}
 use lib.Dec.{T, leb, leb→le}
 use lib.Ieee.Fits.{and-l, and-r}
 use Rattle.face.specs.Face.{isFace}
 use Rattle.notes.specs.declared.Notes.{Notes}
-use Rattle.notes.specs.Notes.{noNotes, added}
+use Rattle.notes.specs.Notes.{noNotes}
+use Rattle.notes.proofs.Sums.{none-added}
 use Rattle.interior.specs.declared.Sight.{Sight}
 use Rattle.interior.specs.Pick.{IsAmbiguousFace}
 use Rattle.tilings.specs.Tilings.{hasCentre}
@@ -22,9 +22,6 @@ nothing-counted x m e = rw e
 -- a tiling with its centre by the code
 pub by-centre : (code row column : ℕ) (b : Bool) (m : Notes) → b ≡ hasCentre code → reach (tiling code row column b) m ≡ reach (tiling code row column (hasCentre code)) m
 by-centre code row column b m e = rw e
-
-none-added : (k : Notes) → added noNotes k ≡ k
-none-added k = ap (λ (n : ℕ). record { unsettled = n }) (omega arith)
 
 module _ (found : Sight) (f g : Notes → Reached) where
   pub by-yes : found .hit ≡ true → f (found .notes) ≡ settled found f g noNotes

@@ -1,4 +1,5 @@
--- `choice::handle_cube` answers what `answerOf` does, in the ranges; the starred cubes; and that no inner number leaves its table.
+-- `choice::handle_cube` answers what `answerOf` does, in the ranges; the starred cubes; that no inner number leaves its table; and that none or all of the picks are
+-- without a match.
 use mathlib.Core.Path.{_≡_, subst, sym, _∙_}
 use lib.Dec.{T}
 use lib.IntN.{ℤ}
@@ -8,16 +9,18 @@ use Rattle.choice.specs.Choice.{natOf, Said, answerOf}
 use Rattle.choice.specs.Inner.{InnerNumbers}
 use Rattle.choice.specs.Ranges.{saidInRanges}
 use Rattle.choice.specs.Starred.{StarredCubes}
+use Rattle.choice.specs.Unmatched.{NoneOrAll}
 use Rattle.choice.proofs.Families.{one-of-its, by-nothing, by-nothing-refused, by-plan, by-plan-refused, by-refusal}
 use Rattle.choice.proofs.Inner.{inner-numbers}
 use Rattle.choice.proofs.Ranges.{ranges}
 use Rattle.choice.proofs.Starred.{starred}
+use Rattle.choice.proofs.Unmatched.{none-or-all}
 use Rattle.choice.proofs.handle_cube.Statement.{statement}
 use Rattle.choice.proofs.handle_cube.Tie as tie
 
 promised : (x y : ℤ) (q : Cube) (r : Said) → r ≡ answerOf x y q
-    → (r ≡ answerOf x y q) × (T (saidInRanges (natOf x) r) × (StarredCubes × InnerNumbers))
-promised x y q r e = (e, (subst (λ (s : Said). T (saidInRanges (natOf x) s)) (sym e) (ranges x y q), (starred, inner-numbers)))
+    → (r ≡ answerOf x y q) × (T (saidInRanges (natOf x) r) × (StarredCubes × (InnerNumbers × NoneOrAll)))
+promised x y q r e = (e, (subst (λ (s : Said). T (saidInRanges (natOf x) s)) (sym e) (ranges x y q), (starred, (inner-numbers, none-or-all))))
 
 family-of-requires : tie.Need-family-of-requires
 family-of-requires c κs = search needs

@@ -15,7 +15,7 @@ sight-of-requires : tie.Need-sight-of-requires
 sight-of-requires c κs = told-by-moves _ _ (c .read .ensures)
 
 returns : tie.Need-returns
-returns c = c .sight-of .ensures ∙ ap (seenAs f32 quotients) (c .before .read .ensures)
+returns c = c .sight-of .ensures ∙ ap (seenAs f32 quotients (c .before .before .args .matched)) (c .before .read .ensures)
 
 pub look-spec : {M : Type 1} → statement M
 look-spec = tie.close (tie.spec read-requires sight-of-requires returns)

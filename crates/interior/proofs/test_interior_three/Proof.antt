@@ -48,9 +48,12 @@ returns c =
     let c1 = c .before .before .before .before in
     let c2 = c1 .before .before .before .before in
     let c3 = c2 .before .before .before in
-    let one = seen-at _ _ 1 _ _ _ (c3 .before .before .interior-ambiguity .ensures .0) (c .before .before .moves-of3 .ensures) (c .before .look3 .ensures) in
-    let two = seen-at _ _ 2 _ _ _ (c3 .before .interior-ambiguity2 .ensures .0) (c2 .before .moves-of .ensures) (c2 .look .ensures) in
-    let five = seen-at _ _ 5 _ _ _ (c3 .interior-ambiguity3 .ensures .0) (c1 .before .before .moves-of2 .ensures) (c1 .before .look2 .ensures) in
+    let pick1 = c3 .before .before .interior-ambiguity .ensures in
+    let pick2 = c3 .before .interior-ambiguity2 .ensures in
+    let pick5 = c3 .interior-ambiguity3 .ensures in
+    let one = seen-at _ _ 1 _ _ _ _ (pick1 .0) (pick1 .1 .1) (c .before .before .moves-of3 .ensures) (c .before .look3 .ensures) in
+    let two = seen-at _ _ 2 _ _ _ _ (pick2 .0) (pick2 .1 .1) (c2 .before .moves-of .ensures) (c2 .look .ensures) in
+    let five = seen-at _ _ 5 _ _ _ _ (pick5 .0) (pick5 .1 .1) (c1 .before .before .moves-of2 .ensures) (c1 .before .look2 .ensures) in
     let c4 = c3 .before .before .before in
     three-faces _ _ _ _ (c4 .before .values .ensures) (c4 .diagonals-of .ensures) 1 2 5 _ _ _ _ _ one two five (c1 .join .ensures) (c .join2 .ensures)
 

@@ -32,7 +32,15 @@ join-requires : tie.Need-join-requires
 join-requires c κs = search room-for-two
 
 returns : tie.Need-returns
-returns c = search (two-faces, seen-at)
+returns c =
+    let c1 = c .before .before .before .before in
+    let c2 = c1 .before .before .before in
+    let pick = c2 .before .interior-ambiguity .ensures in
+    let other = c2 .interior-ambiguity2 .ensures in
+    let one = seen-at _ _ _ _ _ _ _ (pick .0) (pick .1 .1) (c1 .before .moves-of .ensures) (c1 .look .ensures) in
+    let two = seen-at _ _ _ _ _ _ _ (other .0) (other .1 .1) (c .before .before .moves-of2 .ensures) (c .before .look2 .ensures) in
+    let c3 = c2 .before .before in
+    two-faces _ _ _ _ (c3 .before .values .ensures) (c3 .diagonals-of .ensures) _ _ _ _ _ one two (c .join .ensures)
 
 pub test-interior-two-spec : {M : Type 1} → statement M
 test-interior-two-spec =
