@@ -11,8 +11,9 @@ static void print_choice(int case_number, int configuration, mc33_cube cube)
     if (choice.refusal)
         printf("case %d/%d: refused %d\n", case_number, configuration, choice.refusal);
     else
-        printf("case %d/%d: code %d row %d column %d centre %d unsettled %d\n", case_number, configuration, choice.code,
-               choice.row, choice.column, choice.centre, choice.unsettled);
+        printf("case %d/%d: code %d row %d column %d centre %d unsettled %d unmatched %d\n", case_number,
+               configuration, choice.code, choice.row, choice.column, choice.centre, choice.unsettled,
+               choice.unmatched);
 }
 
 static void print_face(mc33_cube cube, int face)
@@ -63,6 +64,7 @@ int main(void)
     mc33_cube level = {{3, -1, -1, -1, -1, -1, 3, -1}};
     mc33_cube steep = {{9, -1, -1, -1, -1, -1, 9, -1}};
     mc33_cube flat = {{1, 1, 1, 1, 1, 1, 1, 1}};
+    mc33_cube unpaired = {{-1, -1, 1, -1, -1, 1, -1, -1}};
     float corners[] = {
         1, -1, 1, -1, -1, -1, -1, -1,
         3, -1, -1, -1, -1, -1, 3, -1,
@@ -78,6 +80,7 @@ int main(void)
     print_choice(3, 0, apart);
     print_choice(4, 0, level);
     print_choice(4, 0, flat);
+    print_choice(4, 0, unpaired);
     print_choice(4, 8, level);
     print_face(tied, 5);
     print_face(tied, -5);

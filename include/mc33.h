@@ -38,11 +38,11 @@ extern "C" {
 
 /* The version of this header. The major number moves where a caller that was built before would read something
  * wrongly (the bytes of a row, the layout of a record, the meaning of a code) or would no longer build, since a name is
- * gone; the shared object's name has it, as libmc33.so.2. The minor number moves where something is added: a function,
+ * gone; the shared object's name has it, as libmc33.so.3. The minor number moves where something is added: a function,
  * a refusal's number, so keep a `default` in a switch over refusals, or what is counted: from 2.1 on `unsettled` counts
- * blank readings too. */
-#define MC33_VERSION_MAJOR 2
-#define MC33_VERSION_MINOR 1
+ * blank readings too. From 3.0 on a choice has `unmatched`. */
+#define MC33_VERSION_MAJOR 3
+#define MC33_VERSION_MINOR 0
 #define MC33_VERSION (1000 * MC33_VERSION_MAJOR + MC33_VERSION_MINOR)
 
 /* MC33_VERSION of the library that is linked. With another major number than this header's nothing else here holds. */
@@ -77,9 +77,14 @@ typedef struct {
 /* A choice: code, row and column of the tiling, 1 where it is drawn with the centre, and how many of its edge readings
  * were unsettled (0 to 3), that is crossed with a product equal to zero, or blank: so many times the inside hung on a
  * tie or on no number. All corners 1 in case 4: three blank readings, unsettled 3. MC33_EMPTY has zeros;
- * MC33_NO_TILING has the configuration as row and the sub-configuration as column. */
+ * MC33_NO_TILING has the configuration as row and the sub-configuration as column.
+ *
+ * The edge that is read is picked by the cube's diagonals, the corners 0 6, 1 7, 2 4 and 3 5. `unmatched` is how many
+ * picks found none with both ends on the side that they look for (0 to 3): edge 0 was then not picked but left over. The
+ * diagonals are the same for every pick, so it is 0 or all of them: 3 in cases 4 and 7, 2 in case 12, 1 in cases 6 and
+ * 10. Corners 2 and 5 at 1, the others at -1, in case 4: unmatched 3. Rows of a list do not have it. */
 typedef struct {
-    uint8_t refusal, code, row, column, centre, unsettled;
+    uint8_t refusal, code, row, column, centre, unsettled, unmatched;
 } mc33_choice;
 
 /* A face answer: 1 for true. */

@@ -7,6 +7,7 @@ APART = [1, -2, 1, -2, -1, -1, -1, -1]
 LEVEL = [3, -1, -1, -1, -1, -1, 3, -1]
 STEEP = [9, -1, -1, -1, -1, -1, 9, -1]
 FLAT = [1] * 8
+UNPAIRED = [-1, -1, 1, -1, -1, 1, -1, -1]
 CUBES = [TIED, LEVEL, [1, 2, 1, 2, 1, 4, 1, 4]]
 NUMBERS = [3, 0, 4, 0, 13, 0]
 
@@ -44,7 +45,8 @@ def print_list(cubes, numbers, answers):
         print(*answers[place:place + mc33.ROW])
 
 
-for case, configuration, corners in (3, 0, TIED), (3, 0, APART), (4, 0, LEVEL), (4, 0, FLAT), (4, 8, LEVEL):
+for case, configuration, corners in (
+        (3, 0, TIED), (3, 0, APART), (4, 0, LEVEL), (4, 0, FLAT), (4, 0, UNPAIRED), (4, 8, LEVEL)):
     print(f"case {case}/{configuration}: {said(choice, case, configuration, corners)}")
 for number in 5, -5, 0:
     print(f"face {number}: {said(face, TIED, number)}")

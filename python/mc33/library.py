@@ -20,7 +20,7 @@ class CubeRecord(ctypes.Structure):
 
 
 class ChoiceRecord(ctypes.Structure):
-    _fields_ = [(name, c_uint8) for name in ("refusal", "code", "row", "column", "centre", "unsettled")]
+    _fields_ = [(name, c_uint8) for name in ("refusal", "code", "row", "column", "centre", "unsettled", "unmatched")]
 
 
 class FaceRecord(ctypes.Structure):

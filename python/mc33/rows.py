@@ -1,7 +1,8 @@
 """Choices, and the rows of bytes in which lists give them."""
 from __future__ import annotations
 
-from typing import Any, Iterable, List, NamedTuple
+from itertools import starmap
+from typing import Any, Iterable, List, NamedTuple, Optional
 
 from .buffers import ANSWERS, check, held
 from .tables import EMPTY, NO_TILING, ROW, TILINGS
@@ -18,6 +19,10 @@ class Choice(NamedTuple):
     `unsettled` is how many of its edge readings were crossed with a product of zero or blank, 0 to 3: the cube of all
     ones in case 4 has 3. Code EMPTY has zeros. Code NO_TILING has the configuration as row and the sub-configuration
     as column.
+
+    `unmatched` is how many picks of an edge to read found no diagonal of the cube with both ends on the side that they
+    look for, so that edge 0 was left over: 0 to 3, and 0 or all of the picks. It is None in what `choices` reads, since
+    rows do not have it.
     """
 
     code: int
@@ -25,6 +30,7 @@ class Choice(NamedTuple):
     column: int
     centre: int
     unsettled: int
+    unmatched: Optional[int] = None
 
     @property
     def name(self) -> str:
@@ -72,4 +78,4 @@ def columns(answers: Iterable[int]) -> Columns:
 
 def choices(answers: Iterable[int]) -> List[Choice]:
     """The choices that a list wrote. ValueError for bytes that are no rows of this version."""
-    return list(map(Choice._make, zip(*_split(answers))))
+    return list(starmap(Choice, zip(*_split(answers))))

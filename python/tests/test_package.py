@@ -28,7 +28,7 @@ class Package(unittest.TestCase):
             self.assertTrue(hasattr(mc33, name), name)
         public = {name for name, value in vars(mc33).items() if name[0] != "_" and not inspect.ismodule(value)}
         self.assertEqual(public, set(mc33.__all__))
-        self.assertEqual(mc33.__version__, "2.1.0")
+        self.assertEqual(mc33.__version__, "3.0.0")
 
     def test_hints_and_words(self):
         self.assertTrue((Path(mc33.__file__).parent / "py.typed").exists())
@@ -61,15 +61,15 @@ class Library(unittest.TestCase):
 
     def test_named_by_the_environment(self):
         shutil.copy(BUILT, self.folder / "copy.so")
-        self.assertEqual(self.said(self.folder / "copy.so"), "2001")
-        self.assertEqual(self.said("copy.so", cwd=self.folder), "2001")
-        self.assertEqual(self.said(""), "2001")
+        self.assertEqual(self.said(self.folder / "copy.so"), "3000")
+        self.assertEqual(self.said("copy.so", cwd=self.folder), "3000")
+        self.assertEqual(self.said(""), "3000")
 
     def test_installed(self):
         shutil.copytree(Path(mc33.__file__).parent, self.folder / "mc33")
         shutil.copy(BUILT, self.folder / INSTALLED)
         copy = {"path": self.folder, "cwd": self.folder}
-        self.assertEqual(self.said("", **copy, LD_LIBRARY_PATH=str(self.folder)), "2001")
+        self.assertEqual(self.said("", **copy, LD_LIBRARY_PATH=str(self.folder)), "3000")
         self.assertRegex(self.said("", **copy), r"libmc33\.so\.2.*\./install\.sh.*MC33_LIBRARY")
 
     def test_missing(self):

@@ -12,7 +12,7 @@ from mc33.library import ChoiceRecord, EdgeRecord, FaceRecord
 from .support import LEVEL, TIED, needs_numpy, numpy
 
 # Document 01, 'Cubes to check by hand': case, configuration, corners that are not the last number, name, row, and
-# unsettled where it is said there or in document 02, Change 2.
+# unsettled where it is said there or in document 02, Change 2. A diagonal matches in each that picks an edge.
 BY_HAND = [
     (3, 0, {0: 2, 2: 2}, -1, "3_2", 0, None),
     (3, 0, {0: 1, 2: 1, 1: -2, 3: -2}, -1, "3_1", 0, None),
@@ -48,10 +48,23 @@ class Choose(unittest.TestCase):
                 choice = mc33.choose(case, configuration, [named.get(corner, other) for corner in range(8)])
                 self.assertEqual((choice.name, choice.row), (name, row))
                 self.assertIn(unsettled, (None, choice.unsettled))
+                self.assertEqual(choice.unmatched, 0)
 
     def test_a_cube_without_a_tiling(self):
-        self.assertEqual(mc33.choose(13, 0, [1, 2, 1, 2, 1, 4, 1, 4]), (mc33.NO_TILING, 0, 5, 0, 0))
-        self.assertEqual(mc33.choose(0, -1, TIED), (mc33.EMPTY, 0, 0, 0, 0))
+        self.assertEqual(mc33.choose(13, 0, [1, 2, 1, 2, 1, 4, 1, 4]), (mc33.NO_TILING, 0, 5, 0, 0, 0))
+        self.assertEqual(mc33.choose(0, -1, TIED), (mc33.EMPTY, 0, 0, 0, 0, 0))
+
+    def test_picks_without_a_match(self):
+        # As docs/DIFFERENCES.md, F11, has them from the Rust: one pick, two and three; and edge 0 by a match.
+        for case, configuration, corners, choice in (
+                (4, 0, [-1, -1, 1, -1, -1, 1, -1, -1], (6, 0, 0, 0, 0, 3)),
+                (4, 0, [-1, 1, -1, -1, -1, -1, -1, 1], (5, 0, 0, 0, 0, 0)),
+                (6, 24, [-1, 1, 1, 2, 1, -1, 1, -1], (8, 24, 0, 0, 0, 1)),
+                (7, 7, [-1, -1, -1, 2, 1, -2, 1, 1], (14, 7, 0, 0, 0, 3)),
+                (10, 1, [-1, 2, 1, 1, -1, 1, 2, -1], (19, 1, 0, 0, 0, 1)),
+                (12, 0, [-1, -1, 1, 1, 3, 1, 1, 1], (25, 0, 0, 0, 0, 2))):
+            with self.subTest(case=case, corners=corners):
+                self.assertEqual(mc33.choose(case, configuration, corners), choice)
 
     def test_every_case_and_configuration(self):
         for case in range(-2, 17):
@@ -86,12 +99,12 @@ class Choose(unittest.TestCase):
 
     def test_corners_of_any_kind(self):
         for corners in (tuple(LEVEL), array("d", LEVEL), iter(LEVEL), map(float, LEVEL)):
-            self.assertEqual(mc33.choose(4, 0, corners), (6, 0, 0, 0, 3))
+            self.assertEqual(mc33.choose(4, 0, corners), (6, 0, 0, 0, 3, 0))
 
     @needs_numpy
     def test_numpy(self):
         for kind in ("f4", "f8", "i4", ">f4"):
-            self.assertEqual(mc33.choose(numpy.int8(4), numpy.int64(0), numpy.array(LEVEL, kind)), (6, 0, 0, 0, 3))
+            self.assertEqual(mc33.choose(numpy.int8(4), numpy.int64(0), numpy.array(LEVEL, kind)), (6, 0, 0, 0, 3, 0))
 
     def test_refusals(self):
         self.assertEqual(said(mc33.choose, 4, 0, LEVEL[:7] + [math.inf]), 3)
@@ -153,7 +166,7 @@ class Roots(unittest.TestCase):
         self.assertEqual({bits: mc33.root_bits(bits) for bits in pairs}, pairs)
 
     def test_version(self):
-        self.assertEqual(mc33.version() // 1000, 2)
+        self.assertEqual(mc33.version() // 1000, 3)
 
 
 class Unfit(unittest.TestCase):

@@ -8,7 +8,8 @@ import mc33
 
 from .support import ROWS, needs_numpy, numpy
 
-CHOICES = [(4, 0, 0, 0, 0), (6, 0, 0, 0, 3), (255, 0, 5, 0, 0)]
+# Rows have no unmatched.
+CHOICES = [(4, 0, 0, 0, 0, None), (6, 0, 0, 0, 3, None), (255, 0, 5, 0, 0, None)]
 READERS = (mc33.choices, mc33.columns)
 
 

@@ -11,8 +11,9 @@ fn print_choice(case: i8, configuration: i8, cube: Cube) {
         Err(refusal) => println!("refused {}", refusal.number()),
         Ok(Choice::Tiled(t)) => {
             let centre = u8::from(t.centre);
+            let unmatched = t.unmatched.unwrap_or(0);
             println!(
-                "code {} row {} column {} centre {centre} unsettled {}",
+                "code {} row {} column {} centre {centre} unsettled {} unmatched {unmatched}",
                 t.code, t.row, t.column, t.unsettled
             );
         }
@@ -64,6 +65,7 @@ fn main() {
     let level = Cube([3.0, -1.0, -1.0, -1.0, -1.0, -1.0, 3.0, -1.0]);
     let steep = Cube([9.0, -1.0, -1.0, -1.0, -1.0, -1.0, 9.0, -1.0]);
     let flat = Cube([1.0; 8]);
+    let unpaired = Cube([-1.0, -1.0, 1.0, -1.0, -1.0, 1.0, -1.0, -1.0]);
     let mut cubes = [tied.0, level.0, [1.0, 2.0, 1.0, 2.0, 1.0, 4.0, 1.0, 4.0]];
     let numbers = [3, 0, 4, 0, 13, 0];
 
@@ -71,6 +73,7 @@ fn main() {
     print_choice(3, 0, apart);
     print_choice(4, 0, level);
     print_choice(4, 0, flat);
+    print_choice(4, 0, unpaired);
     print_choice(4, 8, level);
     print_face(tied, 5);
     print_face(tied, -5);

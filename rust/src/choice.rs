@@ -20,6 +20,10 @@ pub struct Tiling {
     /// How many edge readings made for the choice were unsettled, that is crossed with a product equal to zero, or
     /// blank: 0 to 3. All corners 1 in case 4 give 3.
     pub unsettled: u8,
+    /// How many picks of an edge to read found no diagonal of the cube with both ends on the side that they look for,
+    /// so that edge 0 was left over: 0 to 3, and 0 or all of the picks. `None` where the tiling was read from a row,
+    /// which does not have it.
+    pub unmatched: Option<u8>,
 }
 
 /// The tables' names in the order of their codes.
@@ -66,20 +70,28 @@ pub enum Choice {
     Tiled(Tiling),
 }
 
-/// The choice that these numbers are, or `None` where the library gives no such numbers.
-pub fn choice_of(code: u8, row: u8, column: u8, centre: u8, unsettled: u8) -> Option<Choice> {
-    match (code, centre, unsettled) {
-        (0, 0, 0) if (row, column) == (0, 0) => Some(Choice::Empty),
-        (255, 0, 0) => Some(Choice::Untiled {
+/// The choice that these numbers are, or `None` where the library gives no such numbers. A row has no `unmatched`.
+pub fn choice_of(
+    code: u8,
+    row: u8,
+    column: u8,
+    centre: u8,
+    unsettled: u8,
+    unmatched: Option<u8>,
+) -> Option<Choice> {
+    match (code, centre, unsettled, unmatched.unwrap_or(0)) {
+        (0, 0, 0, 0) if (row, column) == (0, 0) => Some(Choice::Empty),
+        (255, 0, 0, 0) => Some(Choice::Untiled {
             configuration: row,
             sub_configuration: column,
         }),
-        (1..=38, 0..=1, 0..=3) => Some(Choice::Tiled(Tiling {
+        (1..=38, 0..=1, 0..=3, 0..=3) => Some(Choice::Tiled(Tiling {
             code,
             row,
             column,
             centre: centre == 1,
             unsettled,
+            unmatched,
         })),
         _ => None,
     }
@@ -97,6 +109,7 @@ pub fn choice_of(code: u8, row: u8, column: u8, centre: u8, unsettled: u8) -> Op
 /// use mc33::{Choice, NotARow};
 /// let Ok(Choice::Tiled(tiling)) = Choice::try_from([6, 0, 0, 6]) else { panic!() };
 /// assert_eq!((tiling.name(), tiling.centre, tiling.unsettled), ("4_2", false, 3));
+/// assert_eq!(tiling.unmatched, None);
 /// assert_eq!(Choice::try_from([0, 0, 0, 0]), Ok(Choice::Empty));
 /// let untiled = Choice::try_from([255, 0, 5, 0]);
 /// assert!(matches!(untiled, Ok(Choice::Untiled { configuration: 0, sub_configuration: 5, .. })));
@@ -107,7 +120,7 @@ impl TryFrom<[u8; ROW_BYTES]> for Choice {
 
     fn try_from(row_bytes: [u8; ROW_BYTES]) -> Result<Choice, NotARow> {
         let [code, row, column, last] = row_bytes;
-        choice_of(code, row, column, last % 2, last / 2).ok_or(NotARow::Bytes(row_bytes))
+        choice_of(code, row, column, last % 2, last / 2, None).ok_or(NotARow::Bytes(row_bytes))
     }
 }
 

@@ -38,7 +38,7 @@ pub use refusal::{ListRefused, Refusal};
 use library::{Mc33Choice, Mc33Edge, Mc33Face, Mc33Outcome};
 
 /// The version of the library that this crate was written for: (major, minor).
-pub const VERSION: (u32, u32) = (2, 1);
+pub const VERSION: (u32, u32) = (3, 0);
 
 /// The version of the library that is linked: (major, minor).
 ///
@@ -79,6 +79,10 @@ impl From<Cube> for [f32; 8] {
 /// // All ones: the three readings divide nothing by nothing, so they are blank, and unsettled too.
 /// let Ok(Choice::Tiled(tiling)) = choose(4, 0, Cube([1.0; 8])) else { panic!() };
 /// assert_eq!((tiling.name(), tiling.unsettled), ("4_2", 3));
+/// // Corners 2 and 5 are on no diagonal together: the three picks have no match, and edge 0 is left over.
+/// let unpaired = Cube([-1.0, -1.0, 1.0, -1.0, -1.0, 1.0, -1.0, -1.0]);
+/// let Ok(Choice::Tiled(tiling)) = choose(4, 0, unpaired) else { panic!() };
+/// assert_eq!((tiling.unsettled, tiling.unmatched), (0, Some(3)));
 /// assert_eq!(choose(4, 8, cube), Err(Refusal::NoConfiguration));
 /// assert_eq!(choose(0, -1, cube), Ok(Choice::Empty));
 /// ```
@@ -96,9 +100,11 @@ fn choice_said(said: Mc33Choice) -> Result<Choice, Refusal> {
         column,
         centre,
         unsettled,
+        unmatched,
         ..
     } = said;
-    choice::choice_of(code, row, column, centre, unsettled).ok_or(refusal::NO_NAME)
+    choice::choice_of(code, row, column, centre, unsettled, Some(unmatched))
+        .ok_or(refusal::NO_NAME)
 }
 
 /// How many configurations a case has, from 0 on: 0 for case 0, which has -1 alone, and for a number that is no case.

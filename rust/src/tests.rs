@@ -9,6 +9,7 @@ const PLAIN: Mc33Choice = Mc33Choice {
     column: 2,
     centre: 1,
     unsettled: 3,
+    unmatched: 2,
 };
 
 #[test]
@@ -87,15 +88,16 @@ fn a_list_keeps_a_number_above_255() {
 #[test]
 fn a_choice_without_a_name_is_refused() {
     let tiling = |choice| match choice {
-        Ok(Choice::Tiled(t)) => (t.code, t.row, t.column, t.centre, t.unsettled),
+        Ok(Choice::Tiled(t)) => (t.code, t.row, t.column, t.centre, t.unsettled, t.unmatched),
         other => panic!("{other:?}"),
     };
-    assert_eq!(tiling(choice_said(PLAIN)), (4, 1, 2, true, 3));
-    let [mut code, mut centre, mut unsettled] = [PLAIN; 3];
+    assert_eq!(tiling(choice_said(PLAIN)), (4, 1, 2, true, 3, Some(2)));
+    let [mut code, mut centre, mut unsettled, mut unmatched] = [PLAIN; 4];
     code.code = 200;
     centre.centre = 2;
     unsettled.unsettled = 4;
-    for said in [code, centre, unsettled] {
+    unmatched.unmatched = 4;
+    for said in [code, centre, unsettled, unmatched] {
         assert_eq!(choice_said(said), Err(NO_NAME));
     }
 }

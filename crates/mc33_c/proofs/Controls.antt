@@ -16,17 +16,17 @@ use Rattle.mc33_c.specs.Answers.{reachedNumbers, choiceNumbers, faceNumb
 choices : map choiceNumbers
     (made (reach empty noNotes)
     ∷ made (reach (noTiling 1 5) noNotes)
-    ∷ made (reach (tiling 33 11 7 true) (record { unsettled = 3 }))
-    ∷ made (reach (tiling 32 11 7 false) (record { unsettled = 2 }))
+    ∷ made (reach (tiling 33 11 7 true) (record { unsettled = 3; unmatched = 1 }))
+    ∷ made (reach (tiling 32 11 7 false) (record { unsettled = 0; unmatched = 2 }))
     ∷ refused 2
     ∷ refused 3
     ∷ [])
-    ≡ record { refusal = 0; code = 0; row = 0; column = 0; centre = 0; unsettled = 0 }
-    ∷ record { refusal = 0; code = 255; row = 1; column = 5; centre = 0; unsettled = 0 }
-    ∷ record { refusal = 0; code = 33; row = 11; column = 7; centre = 1; unsettled = 3 }
-    ∷ record { refusal = 0; code = 32; row = 11; column = 7; centre = 0; unsettled = 2 }
-    ∷ record { refusal = 2; code = 0; row = 0; column = 0; centre = 0; unsettled = 0 }
-    ∷ record { refusal = 3; code = 0; row = 0; column = 0; centre = 0; unsettled = 0 }
+    ≡ record { refusal = 0; code = 0; row = 0; column = 0; centre = 0; unsettled = 0; unmatched = 0 }
+    ∷ record { refusal = 0; code = 255; row = 1; column = 5; centre = 0; unsettled = 0; unmatched = 0 }
+    ∷ record { refusal = 0; code = 33; row = 11; column = 7; centre = 1; unsettled = 3; unmatched = 1 }
+    ∷ record { refusal = 0; code = 32; row = 11; column = 7; centre = 0; unsettled = 0; unmatched = 2 }
+    ∷ record { refusal = 2; code = 0; row = 0; column = 0; centre = 0; unsettled = 0; unmatched = 0 }
+    ∷ record { refusal = 3; code = 0; row = 0; column = 0; centre = 0; unsettled = 0; unmatched = 0 }
     ∷ []
 unfolding choiceNumbers reachedNumbers
 choices = refl

@@ -18,6 +18,7 @@ use Rattle.edge.specs.declared.EdgeAnswer.{EdgeAnswer}
 use Rattle.edge.specs.declared.EdgeAnswer.the-variants as Edge
 use Rattle.edge.specs.Edge as Edges
 use Rattle.edge.specs.Edge.{told, edgeReadingOf}
+use Rattle.notes.specs.declared.Notes.{Notes}
 use Rattle.choice.specs.declared.Answer.{Answer}
 use Rattle.choice.specs.Choice as Choice
 use Rattle.choice.specs.Choice.{refused, answerOf}
@@ -28,12 +29,12 @@ use Rattle.mc33_c.specs.declared.Mc33Choice.{Mc33Choice}
 use Rattle.mc33_c.specs.declared.Mc33Edge.{Mc33Edge}
 use Rattle.mc33_c.specs.Answers.{answered, choiceNumbers, faceNumbers, readingNumbers, edgeNumbers, outcomeNumbers}
 
-pub filled : (code row column : ℕ) (centre : Bool) (unsettled : ℕ)
-    → record { refusal = 0; code = code; row = row; column = column; centre = boolByte centre; unsettled = unsettled } ≡ answered code row column (bitOf centre) unsettled
-filled code row column centre unsettled = ap (λ (n : ℕ). answered code row column n unsettled) (bit-bound centre .1)
+pub filled : (code row column : ℕ) (centre : Bool) (m : Notes)
+    → record { refusal = 0; code = code; row = row; column = column; centre = boolByte centre; unsettled = m .unsettled; unmatched = m .unmatched } ≡ answered code row column (bitOf centre) m
+filled code row column centre m = ap (λ (n : ℕ). answered code row column n m) (bit-bound centre .1)
 
 pub no-choice : (why : Refusal) (n : ℕ) → n ≡ refusalNumber why
-    → record { refusal = n; code = 0; row = 0; column = 0; centre = 0; unsettled = 0 } ≡ choiceNumbers (refused (refusalNumber why))
+    → record { refusal = n; code = 0; row = 0; column = 0; centre = 0; unsettled = 0; unmatched = 0 } ≡ choiceNumbers (refused (refusalNumber why))
 unfolding choiceNumbers
 no-choice why n e = rw e
 

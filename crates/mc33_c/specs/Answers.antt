@@ -15,21 +15,22 @@ use Rattle.mc33_c.specs.declared.Mc33Face.{Mc33Face}
 use Rattle.mc33_c.specs.declared.Mc33Edge.{Mc33Edge}
 use Rattle.mc33_c.specs.declared.Mc33Outcome.{Mc33Outcome}
 
-abbrev pub answered : ℕ → ℕ → ℕ → ℕ → ℕ → Mc33Choice
-answered code row column centre unsettled = record { refusal = 0; code = code; row = row; column = column; centre = centre; unsettled = unsettled }
+abbrev pub answered : ℕ → ℕ → ℕ → ℕ → Notes → Mc33Choice
+answered code row column centre m =
+    record { refusal = 0; code = code; row = row; column = column; centre = centre; unsettled = m .unsettled; unmatched = m .unmatched }
 
--- document 01, 'Program': the fields of a tiling; empty is five zeros; no tiling is 255, configuration, sub-configuration, 0, 0
+-- document 01, 'Program': the fields of a tiling; empty is zeros; no tiling is 255, configuration, sub-configuration, 0; then what was counted, which for both is nothing
 abbrev numbersBy : Chosen → Notes → Mc33Choice
-numbersBy empty m = answered 0 0 0 0 0
-numbersBy (noTiling c sub) m = answered 255 c sub 0 0
-numbersBy (tiling code row column centre) m = answered code row column (bitOf centre) (m .unsettled)
+numbersBy empty m = answered 0 0 0 0 m
+numbersBy (noTiling c sub) m = answered 255 c sub 0 m
+numbersBy (tiling code row column centre) m = answered code row column (bitOf centre) m
 
 unfoldable pub reachedNumbers : Reached → Mc33Choice
 reachedNumbers r = numbersBy (r .choice) (r .notes)
 
 unfoldable pub choiceNumbers : Said → Mc33Choice
 choiceNumbers (made r) = reachedNumbers r
-choiceNumbers (refused n) = record { refusal = n; code = 0; row = 0; column = 0; centre = 0; unsettled = 0 }
+choiceNumbers (refused n) = record { refusal = n; code = 0; row = 0; column = 0; centre = 0; unsettled = 0; unmatched = 0 }
 
 unfoldable pub faceNumbers : Face.Said → Mc33Face
 faceNumbers (Face.answer b) = record { refusal = 0; answer = bitOf b }

@@ -24,11 +24,12 @@ use edge::EdgeAnswer;
 use edge::Reading;
 use face::FaceAnswer;
 use list::Outcome;
+use notes::Notes;
 use tilings::Choice;
 use tilings::Counted;
 
 // `refusal` is 0 where there is an answer. Empty is all 0; no tiling is code 255 with the configuration
-// as row and the sub-configuration as column.
+// as row and the sub-configuration as column. Behind them stands what was counted.
 #[repr(C)]
 pub struct Mc33Choice {
     pub refusal: u8,
@@ -37,6 +38,7 @@ pub struct Mc33Choice {
     pub column: u8,
     pub centre: u8,
     pub unsettled: u8,
+    pub unmatched: u8,
 }
 
 // `answer` is 1 for true.
@@ -68,7 +70,7 @@ pub struct Mc33Outcome {
 pub extern "C" fn mc33_version() -> u32
     ensures { λ r. ⌜ r ≡ version ⌝ }
 {
-    2001
+    3000
 }
 
 // The f32 square root of x: the nearest value. A NaN has no pattern of its own here.
@@ -100,11 +102,12 @@ fn no_choice(why: Refusal) -> Mc33Choice
         column: 0,
         centre: 0,
         unsettled: 0,
+        unmatched: 0,
     }
 }
 
-fn answered(code: u8, row: u8, column: u8, centre: bool, unsettled: u8) -> Mc33Choice
-    ensures { λ r. ⌜ r ≡ answered code row column (bitOf centre) unsettled ⌝ }
+fn answered(code: u8, row: u8, column: u8, centre: bool, notes: Notes) -> Mc33Choice
+    ensures { λ r. ⌜ r ≡ answered code row column (bitOf centre) notes ⌝ }
 {
     Mc33Choice {
         refusal: 0,
@@ -112,7 +115,8 @@ fn answered(code: u8, row: u8, column: u8, centre: bool, unsettled: u8) -> Mc33C
         row: row,
         column: column,
         centre: centre as u8,
-        unsettled: unsettled,
+        unsettled: notes.unsettled,
+        unmatched: notes.unmatched,
     }
 }
 
@@ -121,16 +125,11 @@ fn reached_numbers(r: Counted) -> Mc33Choice
     ensures { λ x. ⌜ x ≡ reachedNumbers (reached r) ⌝ }
 {
     let choice = r.choice;
+    let notes = r.notes;
     match choice {
-        Choice::Empty => answered(0, 0, 0, false, 0),
-        Choice::Untiled(c, sub) => answered(255, c, sub, false, 0),
-        Choice::Tiled(code, row, column, centre) => answered(
-            code,
-            row,
-            column,
-            centre,
-            r.notes.unsettled,
-        ),
+        Choice::Empty => answered(0, 0, 0, false, notes),
+        Choice::Untiled(c, sub) => answered(255, c, sub, false, notes),
+        Choice::Tiled(code, row, column, centre) => answered(code, row, column, centre, notes),
     }
 }
 

@@ -41,11 +41,11 @@ filled-requires-3 c κs = search needs
 
 returns : tie.Need-returns
 unfolding bytesOf
-returns c = row-as _ _ _ (c .filled .ensures) _ _ (c .before .enum-told .given .1) refl
+returns c = row-as (c .before .before .before .args .r .notes) _ _ (c .filled .ensures) _ _ (c .before .enum-told .given .1) refl
 
 returns-2 : tie.Need-returns-2
 unfolding bytesOf
-returns-2 c = row-as _ _ _ (c .filled2 .ensures) _ _ (c .before .before .choice .given .1) refl
+returns-2 c = row-as (c .before .before .before .before .args .r .notes) _ _ (c .filled2 .ensures) _ _ (c .before .before .choice .given .1) refl
 
 returns-3 : tie.Need-returns-3
 returns-3 c = row-tiled _ _ _ _ _ _ _ (c .before .before .before .choice2 .given .1) (c .filled3 .ensures)

@@ -8,7 +8,7 @@ cast-t6 : tie.Need-cast-t6
 cast-t6 c = search needs
 
 returns : tie.Need-returns
-returns c = filled (c .args .code) (c .args .row) (c .args .column) (c .args .centre) (c .args .unsettled)
+returns c = filled (c .args .code) (c .args .row) (c .args .column) (c .args .centre) (c .args .notes)
 
 pub answered-spec : {M : Type 1} → statement M
 answered-spec = tie.close (tie.spec cast-t6 returns)
