@@ -157,8 +157,8 @@ module _ (x y : ℤ) (f : Family) (fx : SFits w8 x) (fy : SFits w8 y) (e : kin f
       found : (a : Bool) (r : Reached) → b ≡ a → ifFinite a r ≡ ifFinite (allFinite q) r
       found a r h = ap (λ (d : Bool). ifFinite d r) (sym h ∙ finite)
 
-      pub by-nothing : f ≡ Nothing → b ≡ true → (r : Said) → r ≡ made (reach empty noNotes) → r ≡ answerOf x y q
-      by-nothing s h r i = i ∙ found true (reach empty noNotes) h ∙ by-family Nothing s
+      pub by-nothing : f ≡ Nothing → b ≡ true → (r : Reached) → r ≡ reach empty noNotes → made r ≡ answerOf x y q
+      by-nothing s h r i = ap made i ∙ found true (reach empty noNotes) h ∙ by-family Nothing s
 
       pub by-nothing-refused : f ≡ Nothing → b ≡ false → Choice.refused 3 ≡ answerOf x y q
       by-nothing-refused s h = found false (reach empty noNotes) h ∙ by-family Nothing s
@@ -166,6 +166,9 @@ module _ (x y : ℤ) (f : Family) (fx : SFits w8 x) (fy : SFits w8 y) (e : kin f
       module _ (k c : ℕ) (s : f ≡ Known k c) where
         pub by-plan : b ≡ true → (r : Reached) → r ≡ run (answersOf q) (planOf k c) noNotes → made r ≡ answerOf x y q
         by-plan h r i = ap made i ∙ found true (run (answersOf q) (planOf k c) noNotes) h ∙ by-family (Known k c) s
+
+        pub by-same-plan : b ≡ true → (r t : Reached) → r ≡ run (answersOf q) (planOf k c) noNotes → t ≡ r → made t ≡ answerOf x y q
+        by-same-plan h r t i e = by-plan h t (e ∙ i)
 
         pub by-plan-refused : b ≡ false → Choice.refused 3 ≡ answerOf x y q
         by-plan-refused h = found false (run (answersOf q) (planOf k c) noNotes) h ∙ by-family (Known k c) s

@@ -6,11 +6,9 @@ ghost use Prim.Native.Nat.{_<_, _≤_};
 ghost use lib.Dec.{T};
 ghost use lib.IntN.{pos};
 ghost use lib.ListN.{getD};
-ghost use Rattle.notes.specs.Notes.{noNotes};
 ghost use Rattle.tilings.specs.Tilings.{configurations};
-ghost use Rattle.tilings.specs.Plan.{empty, reach};
 ghost use Rattle.tilings.specs.Answers.{reached};
-ghost use Rattle.choice.specs.Choice.{natOf, refusalOf, choiceOf, made, answerOf, said};
+ghost use Rattle.choice.specs.Choice.{natOf, refusalOf, choiceOf, answerOf, said};
 ghost use Rattle.choice.specs.Inner.{InnerNumbers};
 ghost use Rattle.choice.specs.Kin.{kin, kinOf};
 ghost use Rattle.choice.specs.Ranges.{saidInRanges};
@@ -19,6 +17,7 @@ ghost use Rattle.choice.specs.Unmatched.{NoneOrAll};
 use cube::Cube;
 use cube::Refusal;
 use cube::Split;
+use tilings::Choice;
 use tilings::Counted;
 
 // What is answered: the choice with what was counted, or why there is none.
@@ -93,12 +92,27 @@ fn family_of(case: i8, configuration: i8) -> Family
     }
 }
 
-// The answer of case 0. By itself: with its body in `handle_cube` the compiler would read the four bytes of a tiling as
-// one word right after they are stored one by one, and wait for them.
-fn empty_answer() -> Answer
-    ensures { λ r. ⌜ said r ≡ made (reach empty noNotes) ⌝ }
+// The same choice, its numbers read one by one: by itself the compiler would read the four of a tiling as one word right
+// after they are stored one by one, and wait for them.
+fn same(r: Counted) -> Counted
+    ensures { λ x. ⌜ reached x ≡ reached r ⌝ }
 {
-    Answer::Chosen(tilings::nothing())
+    let choice = r.choice;
+    let notes = r.notes;
+    match choice {
+        Choice::Empty => Counted {
+            choice: Choice::Empty,
+            notes: notes,
+        },
+        Choice::Untiled(c, sub) => Counted {
+            choice: Choice::Untiled(c, sub),
+            notes: notes,
+        },
+        Choice::Tiled(code, row, column, centre) => Counted {
+            choice: Choice::Tiled(code, row, column, centre),
+            notes: notes,
+        },
+    }
 }
 
 // The choice: refusal 1, 2 or 3 in this order, or what document 01 chooses.
@@ -112,14 +126,14 @@ pub fn handle_cube(case: i8, configuration: i8, q: Cube) -> Answer
     match family_of(case, configuration) {
         Family::Nothing => {
             if cube::all_finite(q) {
-                return empty_answer();
+                return Answer::Chosen(tilings::nothing());
             }
             Answer::Refused(Refusal::NotFinite)
         }
         Family::Known(k, c) => {
             if cube::all_finite(q) {
                 if families::asks(k) {
-                    return Answer::Chosen(families::choose(q, k, c));
+                    return Answer::Chosen(same(families::choose(q, k, c)));
                 }
                 return Answer::Chosen(families::choose_plain(q, k, c));
             }

@@ -14,7 +14,10 @@ pub struct Notes {
 pub fn none() -> Notes
     ensures { λ r. ⌜ r ≡ noNotes ⌝ }
 {
-    Notes { unsettled: 0, unmatched: 0 }
+    Notes {
+        unsettled: 0,
+        unmatched: 0,
+    }
 }
 
 // What an edge reading counts, with the pick of its edge.

@@ -10,7 +10,7 @@ use Rattle.choice.specs.Inner.{InnerNumbers}
 use Rattle.choice.specs.Ranges.{saidInRanges}
 use Rattle.choice.specs.Starred.{StarredCubes}
 use Rattle.choice.specs.Unmatched.{NoneOrAll}
-use Rattle.choice.proofs.Families.{one-of-its, by-nothing, by-nothing-refused, by-plan, by-plan-refused, by-refusal}
+use Rattle.choice.proofs.Families.{one-of-its, by-nothing, by-nothing-refused, by-plan, by-same-plan, by-plan-refused, by-refusal}
 use Rattle.choice.proofs.Inner.{inner-numbers}
 use Rattle.choice.proofs.Ranges.{ranges}
 use Rattle.choice.proofs.Starred.{starred}
@@ -31,8 +31,8 @@ enum-told c = search needs
 all-finite-requires : tie.Need-all-finite-requires
 all-finite-requires c κs = search needs
 
-empty-answer-requires : tie.Need-empty-answer-requires
-empty-answer-requires c κs = search needs
+nothing-requires : tie.Need-nothing-requires
+nothing-requires c κs = search needs
 
 returns : tie.Need-returns
 returns c = promised _ _ _ _ (search by-nothing)
@@ -49,8 +49,11 @@ asks-requires c κs = search needs
 choose-requires : tie.Need-choose-requires
 choose-requires c κs = search one-of-its
 
+same-requires : tie.Need-same-requires
+same-requires c κs = search needs
+
 returns-2 : tie.Need-returns-2
-returns-2 c = promised _ _ _ _ (search by-plan)
+returns-2 c = promised _ _ _ _ (search by-same-plan)
 
 choose-plain-requires : tie.Need-choose-plain-requires
 choose-plain-requires c κs = (search one-of-its, sym (c .before .asks .ensures) ∙ c .if3 .left)
@@ -77,12 +80,13 @@ handle-cube-spec =
     family-of-requires
     enum-told
     all-finite-requires
-    empty-answer-requires
+    nothing-requires
     returns
     enum-known-k
     all-finite-requires-2
     asks-requires
     choose-requires
+    same-requires
     returns-2
     choose-plain-requires
     returns-3
