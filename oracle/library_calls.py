@@ -1,12 +1,14 @@
 """The calls that crates/library_calls makes, and their answers, from outside:
 
-    python3 oracle/library_calls.py calls > crates/library_calls/stdin
-    python3 oracle/library_calls.py answers > crates/library_calls/stdout
+    oracle/choice.sh SOURCE choices < crates/mc33/stdin > CHOICES
+    python3 oracle/library_calls.py calls < CHOICES > crates/library_calls/stdin
+    python3 oracle/library_calls.py answers < CHOICES > crates/library_calls/stdout
 
 The version is the header's. Choices are document 01's own for its cubes to check by hand, with unsettled as document
-02's Change 2 gives it, and the Rust's for the cubes of mc33's sample, from crates/mc33/stdin and stdout. Lists,
-refusals, face tests, edge readings and roots are worked out here from document 01's text. Each operation is made in
-binary64 and rounded to binary32, which for +, -, ×, / and the root of normal results is the same as rounding once.
+02's Change 2 gives it and no pick without a match, and the Rust's for the cubes of mc33's sample, from standard input,
+held to crates/mc33/stdout. Lists, refusals, face tests, edge readings and roots are worked out here from document 01's
+text. Each operation is made in binary64 and rounded to binary32, which for +, -, ×, / and the root of normal results
+is the same as rounding once.
 """
 import math
 import pathlib
@@ -18,7 +20,7 @@ CRATES = pathlib.Path(__file__).resolve().parent.parent / 'crates'
 INF, NAN, STEP = math.inf, math.nan, 2.0 ** -23
 
 calls, answers = [], []
-held = []  # the cubes of the next list: the five numbers of a choice behind its refusal
+held = []  # the cubes of the next list: the six numbers of a choice behind its refusal
 
 
 def rounded(x):
@@ -74,12 +76,13 @@ def choose(text, numbers):
     held.append(numbers)
 
 
+# Code, row, column, centre and unsettled; unmatched is 0.
 def made(case, configuration, cube, *tiling):
-    choose(line(case, configuration, cube), [0, *tiling])
+    choose(line(case, configuration, cube), [0, *tiling, 0])
 
 
 def refused(case, configuration, cube, why):
-    choose(line(case, configuration, cube), [why, 0, 0, 0, 0, 0])
+    choose(line(case, configuration, cube), [why, 0, 0, 0, 0, 0, 0])
 
 
 def release():
@@ -97,7 +100,7 @@ def outcome(values, numbers, room):
     for place, choice in enumerate(held[:cubes]):
         if choice[0]:
             return choice[0], place, []
-    rows = ([code, row, column, centre + 2 * unsettled] for _, code, row, column, centre, unsettled in held[:cubes])
+    rows = ([code, row, column, centre + 2 * unsettled] for _, code, row, column, centre, unsettled, _ in held[:cubes])
     return 0, 0, sum(rows, [])
 
 
@@ -110,8 +113,11 @@ def choose_list(values, numbers, room):
 def cubes_of_the_sample():
     texts = (CRATES / 'mc33/stdin').read_text().split('\n')
     said = (CRATES / 'mc33/stdout').read_text().split('\n')
-    pairs = zip(texts[1:], said[1:])
-    return [(text, [int(number) for number in answer.split()]) for text, answer in pairs if answer[:1].isdigit()]
+    choices = sys.stdin.read().splitlines()
+    printed = [answer for answer in said[1:] if answer[:1].isdigit()]
+    if [choice.rpartition(' ')[0] for choice in choices] != printed:
+        sys.exit("standard input has not the choices of mc33's sample")
+    return [(text, [int(number) for number in choice.split()]) for text, choice in zip(texts[1:], choices)]
 
 
 def hand_cubes():
@@ -140,13 +146,13 @@ def kinds_of_row(sampled):
     note("a row of each kind: document 01's lines and mc33's sample")
     made(0, -1, corners({}, 1), 0, 0, 0, 0, 0)
     made(13, 0, [1, 2, 1, 2, 1, 4, 1, 4], 255, 0, 5, 0, 0)
-    sampled(lambda code, row, column, centre, unsettled: code == 255 and row == 1)
+    sampled(lambda code, row, column, centre, unsettled, _: code == 255 and row == 1)
     made(3, 0, corners({0: 1, 2: 1}), 4, 0, 0, 0, 0)
-    sampled(lambda code, row, column, centre, unsettled: code == 12 and column == 1 and row == 1)
-    sampled(lambda code, row, column, centre, unsettled: centre == 1 and column == 2)
-    sampled(lambda code, row, column, centre, unsettled: centre == 1 and column == 0 and row == 5)
-    sampled(lambda code, row, column, centre, unsettled: unsettled == 1 and row > 1)
-    sampled(lambda code, row, column, centre, unsettled: unsettled == 2 and row > 1)
+    sampled(lambda code, row, column, centre, unsettled, _: code == 12 and column == 1 and row == 1)
+    sampled(lambda code, row, column, centre, unsettled, _: centre == 1 and column == 2)
+    sampled(lambda code, row, column, centre, unsettled, _: centre == 1 and column == 0 and row == 5)
+    sampled(lambda code, row, column, centre, unsettled, _: unsettled == 1 and row > 1)
+    sampled(lambda code, row, column, centre, unsettled, _: unsettled == 2 and row > 1)
     made(4, 0, corners({0: 3, 6: 3}), 6, 0, 0, 0, 3)
     note('done, with a row more of room and with none')
     for sizes in (80, 20, 44), (80, 20, 40):
@@ -163,6 +169,14 @@ def kinds_of_row(sampled):
     note('no cubes')
     for sizes in (0, 0, 4), (0, 0, 0):
         choose_list(*sizes)
+    release()
+
+
+def picks_without_a_match(sampled):
+    note('picks without a match: 1, 2 and 3, and no reading unsettled, or all')
+    for number in 1, 2, 3:
+        for unsettled in 0, number:
+            sampled(lambda *choice: choice[4:] == (unsettled, number))
     release()
 
 
@@ -317,8 +331,12 @@ def version():
 def main():
     version()
     sample = cubes_of_the_sample()
+    def sampled(test):
+        choose(*next((text, [0, *answer]) for text, answer in sample if test(*answer)))
+
     hand_cubes()
-    kinds_of_row(lambda test: choose(*next((text, [0, *answer]) for text, answer in sample if test(*answer))))
+    kinds_of_row(sampled)
+    picks_without_a_match(sampled)
     refusals_of_a_cube()
     faces()
     readings()
