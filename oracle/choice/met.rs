@@ -85,13 +85,13 @@ pub fn wanted() -> Vec<(usize, String)> {
         for number in 0..=READINGS[case] {
             all.push((UNSETTLED + case * 4 + number, format!("case {case} unsettled {number}")));
         }
-        // The four pairs are the same for each face, so no pick has a match, or all have.
-        for number in [0, READINGS[case]] {
-            all.push((UNMATCHED + case * 4 + number, format!("case {case} unmatched {number}")));
-        }
+        all.push((UNMATCHED + case * 4, format!("case {case} unmatched 0")));
         if READINGS[case] > 0 {
-            all.push((BLANK + case, format!("case {case} blank")));
+            // The four pairs are the same for each face, so all picks have a match, or none has.
+            let most = READINGS[case];
+            all.push((UNMATCHED + case * 4 + most, format!("case {case} unmatched {most}")));
             all.push((EDGE_0_MATCHED + case, format!("case {case} edge 0 by a match")));
+            all.push((BLANK + case, format!("case {case} blank")));
         }
     }
     all.extend(wanted_readings(IN_CHOICE, "in a choice"));

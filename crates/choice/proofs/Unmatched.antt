@@ -2,7 +2,7 @@
 use mathlib.Core.Path.{_≡_, refl, sym, subst}
 use mathlib.Core.Bool.{Bool, true, false, cond, _&&_, _||_}
 use mathlib.Core.List.{List, [], _∷_}
-use Prim.Native.Nat.{ℕ, _+_}
+use Prim.Native.Nat.{ℕ}
 use native.Mathlib.Nat.{zero-add}
 use lib.Dec.{T, eqb, eqb→eq, eqb-refl}
 use lib.IntN.{ℤ}
@@ -13,7 +13,6 @@ use Rattle.cube.specs.declared.Cube.{Cube}
 use Rattle.cube.specs.Corners.{cornerOf}
 use Rattle.notes.specs.declared.Notes.{Notes}
 use Rattle.notes.specs.Notes.{noNotes, added}
-use Rattle.interior.specs.declared.Sight.{Sight}
 use Rattle.interior.specs.Pick.{areAmbiguousFaces, anyPair}
 use Rattle.interior.proofs.Unmatched.{unmatched-all}
 use Rattle.tilings.specs.Tilings.{isOneOf}

@@ -14,7 +14,7 @@ use lib.Ieee.Fits.{and-l, and-r}
 use mir.Syntax.{w8}
 use mir.Val.{SFits, toZ, ofZ}
 use mir.ValLaws.{toZ-ofZ, toZ-pos}
-use Rattle.binary32.specs.Numbers.{Numbers, f32}
+use Rattle.binary32.specs.Numbers.{Numbers}
 use Rattle.cube.specs.declared.Cube.{Cube}
 use Rattle.cube.specs.Bits.{bitOf, numberOf}
 use Rattle.cube.specs.Corners.{corners, valueAt, cornerOf}

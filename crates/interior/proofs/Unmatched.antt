@@ -1,6 +1,6 @@
 -- The four pairs are the same for each face, so of the picks of an interior test none is without a match, or all are. Assumes nothing.
 use mathlib.Core.Path.{_≡_, refl, _∙_}
-use mathlib.Core.Bool.{Bool, true, false, cond, _&&_}
+use mathlib.Core.Bool.{Bool, true, false, cond}
 use mathlib.Core.List.{List, [], _∷_}
 use Prim.Native.Nat.{ℕ, suc, _+_}
 use native.Mathlib.Omega.{arith}
@@ -12,7 +12,7 @@ use Rattle.binary32.specs.Numbers.{Numbers, f32}
 use Rattle.cube.specs.declared.Cube.{Cube}
 use Rattle.cube.specs.Corners.{cornerOf}
 use Rattle.edge.specs.Edge.{Quotients, quotients}
-use Rattle.interior.specs.Pick.{IsAmbiguousFace, isAmbiguousFace, areAmbiguousFaces, anyPair, pickBy}
+use Rattle.interior.specs.Pick.{IsAmbiguousFace, isAmbiguousFace, areAmbiguousFaces, anyPair}
 use Rattle.interior.specs.Interior.{joined, seenAs, lookAt, insideBy, insideOf}
 use Rattle.interior.proofs.Picks.{matched-any}
 

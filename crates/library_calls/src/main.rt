@@ -51,15 +51,17 @@ fn code(x: f32) -> u8 {
 
 fn choose(k: i8, c: i8, q: Cube) {
     let r = mc33_c::mc33_choose(k, c, q);
-    print_bytes(&[
-        r.refusal,
-        r.code,
-        r.row,
-        r.column,
-        r.centre,
-        r.unsettled,
-        r.unmatched,
-    ]);
+    print_bytes(
+        &[
+            r.refusal,
+            r.code,
+            r.row,
+            r.column,
+            r.centre,
+            r.unsettled,
+            r.unmatched,
+        ],
+    );
 }
 
 fn face(k: i8, q: Cube) {
