@@ -1,5 +1,6 @@
 /* What include/mc33.h says by itself, held to the library: its version, the configurations of each case, the names of
- * the tilings by document 01's cubes, the size of a row. Prints what differs; the status is how many did. */
+ * the tilings by document 01's cubes, its examples of what is counted, the size of a row. Prints what differs; the
+ * status is how many did. */
 #include <math.h>
 #include <stdio.h>
 #include <string.h>
@@ -74,6 +75,17 @@ static void texts(void)
     held(strcmp(mc33_refusal_text(UINT64_MAX), mc33_refusal_text(9)) == 0, "9 is no refusal, and any number has a text", 9);
 }
 
+/* The header's own examples of what is counted. */
+static void counts(void)
+{
+    mc33_cube flat = {{1, 1, 1, 1, 1, 1, 1, 1}}, unpaired = {{-1, -1, 1, -1, -1, 1, -1, -1}};
+    mc33_choice choice = mc33_choose(4, 0, flat);
+    held(choice.unsettled == 3 && choice.unmatched == 0, "all corners 1 in case 4", choice.unsettled);
+    choice = mc33_choose(4, 0, unpaired);
+    held(choice.unsettled == 0 && choice.unmatched == 3, "corners 2 and 5 in case 4", choice.unmatched);
+    held(sizeof(mc33_choice) == 7, "a choice has 7 bytes", (int)sizeof(mc33_choice));
+}
+
 static void sizes(void)
 {
     float corners[16] = {1, 1, 1, 1, 1, 1, 1, 1, 1, 1, 1, 1, 1, 1, 1, 1};
@@ -90,6 +102,7 @@ int main(void)
     configurations();
     names();
     texts();
+    counts();
     sizes();
     printf(wrong ? "header: %d wrong\n" : "header: as the library has it\n", wrong);
     return wrong != 0;

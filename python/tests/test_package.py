@@ -9,8 +9,12 @@ from pathlib import Path
 
 import mc33
 from mc33.library import BUILT, FUNCTIONS, INSTALLED
+from mc33.release import MAJOR, VERSION
 
 from .support import run
+
+# What the library tells of this package's version.
+NUMBER = "{}{:03}".format(*map(int, VERSION.split(".")[:2]))
 
 ASK = """
 import mc33
@@ -61,16 +65,16 @@ class Library(unittest.TestCase):
 
     def test_named_by_the_environment(self):
         shutil.copy(BUILT, self.folder / "copy.so")
-        self.assertEqual(self.said(self.folder / "copy.so"), "3000")
-        self.assertEqual(self.said("copy.so", cwd=self.folder), "3000")
-        self.assertEqual(self.said(""), "3000")
+        self.assertEqual(self.said(self.folder / "copy.so"), NUMBER)
+        self.assertEqual(self.said("copy.so", cwd=self.folder), NUMBER)
+        self.assertEqual(self.said(""), NUMBER)
 
     def test_installed(self):
         shutil.copytree(Path(mc33.__file__).parent, self.folder / "mc33")
         shutil.copy(BUILT, self.folder / INSTALLED)
         copy = {"path": self.folder, "cwd": self.folder}
-        self.assertEqual(self.said("", **copy, LD_LIBRARY_PATH=str(self.folder)), "3000")
-        self.assertRegex(self.said("", **copy), r"libmc33\.so\.2.*\./install\.sh.*MC33_LIBRARY")
+        self.assertEqual(self.said("", **copy, LD_LIBRARY_PATH=str(self.folder)), NUMBER)
+        self.assertRegex(self.said("", **copy), rf"libmc33\.so\.{MAJOR}.*\./install\.sh.*MC33_LIBRARY")
 
     def test_missing(self):
         for name in (self.folder / "none.so", "none.so"):
@@ -85,11 +89,12 @@ class Library(unittest.TestCase):
 
     def test_another_major_version(self):
         others = "".join(f"void {name}(void) {{}}\n" for name in FUNCTIONS if name != "mc33_version")
-        for major in 1, 3:
+        for major in MAJOR - 1, MAJOR + 1:
             made = self.made(others + f"unsigned mc33_version(void) {{ return {major}001; }}")
-            words = rf"made\.so has version {major}\.1, .* 2\.1\.0 .* needs 2\. .*install\.sh"
+            words = rf"made\.so has version {major}\.1, .* {VERSION} .* needs {MAJOR}\. .*install\.sh"
             self.assertRegex(self.said(made), words)
 
     def test_a_later_minor_version(self):
         others = "".join(f"void {name}(void) {{}}\n" for name in FUNCTIONS if name != "mc33_version")
-        self.assertEqual(self.said(self.made(others + "unsigned mc33_version(void) { return 2007; }")), "2007")
+        later = f"{MAJOR}007"
+        self.assertEqual(self.said(self.made(others + f"unsigned mc33_version(void) {{ return {later}; }}")), later)

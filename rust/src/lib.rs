@@ -103,8 +103,7 @@ fn choice_said(said: Mc33Choice) -> Result<Choice, Refusal> {
         unmatched,
         ..
     } = said;
-    choice::choice_of(code, row, column, centre, unsettled, Some(unmatched))
-        .ok_or(refusal::NO_NAME)
+    choice::choice_of(code, row, column, centre, unsettled, Some(unmatched)).ok_or(refusal::NO_NAME)
 }
 
 /// How many configurations a case has, from 0 on: 0 for case 0, which has -1 alone, and for a number that is no case.
