@@ -9,7 +9,7 @@ use native.Mathlib.Omega.{arith}
 use lib.Dec.{T, leb, ltb, eqb, eqb→eq, leb→le, ltb→lt, le→leb, lit≤}
 use lib.IntN.{ℤ, pos, negsuc}
 use lib.ListN.{getD, length}
-use lib.Ieee.Fits.{and-l, and-r}
+use lib.Ieee.Fits.{and-i, and-l, and-r}
 use Rattle.cube.specs.declared.Cube.{Cube}
 use Rattle.cube.specs.Corners.{allFinite}
 use Rattle.cube.proofs.Table.{allUnder, under}
@@ -45,20 +45,16 @@ fits case used (ask (face n) p r) = fits case used p && fits case used r
 fits case used (ask (inside ns s) p r) = fits case (used + length ns) p && fits case (used + length ns) r
 fits case used (ask inside13 p r) = fits case used p && fits case used r
 
-both : (a b : Bool) → T a → T b → T (a && b)
-both true b h l = l
-both false b h l = absurd h
-
 fewer : (n used : ℕ) (m : Notes) → Few m used → T (within n (counts used)) → T (within n m)
 fewer n used m (h, i) t =
     let l : used ≤ n = leb→le used n (and-l (leb used n) (leb used n) t) in
-    both (leb (m .unsettled) n) (leb (m .unmatched) n) (le→leb (m .unsettled) n (omega arith)) (le→leb (m .unmatched) n (omega arith))
+    and-i (leb (m .unsettled) n) (leb (m .unmatched) n) (le→leb (m .unsettled) n (omega arith)) (le→leb (m .unmatched) n (omega arith))
 
 reached-in : (case used : ℕ) (x : Chosen) (m : Notes) → Few m used → T (inRanges case (reach x (counts used))) → T (inRanges case (reach x m))
 unfolding inRanges
 reached-in case used x m h t =
     let n = getD readings case 0 in
-    both (placed case x) (within n m) (and-l (placed case x) (within n (counts used)) t) (fewer n used m h (and-r (placed case x) (within n (counts used)) t))
+    and-i (placed case x) (within n m) (and-l (placed case x) (within n (counts used)) t) (fewer n used m h (and-r (placed case x) (within n (counts used)) t))
 
 either : (case : ℕ) (b : Bool) (x y : Reached) → T (inRanges case x) → T (inRanges case y) → T (inRanges case (cond b x y))
 either case true x y h l = h

@@ -64,8 +64,14 @@ module _ (d : Diagonals) (n : ℕ) where
   abbrev picked : Picked
   picked = pickWith (heldBy d) n
 
+  abbrev sameEdge : Bool
+  sameEdge = eqb digit (picked .edge)
+
+  abbrev sameMatch : Bool
+  sameMatch = Bool·beq (not (eqb (setOf d) 0)) (picked .matched)
+
   abbrev isRight : Bool
-  isRight = eqb digit (picked .edge) && Bool·beq (not (eqb (setOf d) 0)) (picked .matched)
+  isRight = sameEdge && sameMatch
 
 abbrev right : Bool → Bool → Bool → Bool → Bool
 right a b c e =
@@ -98,14 +104,11 @@ same-answer false true h = absurd h
 same-answer false false h = refl
 
 module _ (d : Diagonals) (n : ℕ) (h : IsAmbiguousFace n) where
-  abbrev setAny : Bool
-  setAny = Bool·beq (not (eqb (setOf d) 0)) (picked d n .matched)
-
   last-digit : digit d n ≡ picked d n .edge
-  last-digit = eqb→eq (digit d n) (picked d n .edge) (and-l (eqb (digit d n) (picked d n .edge)) setAny (right-for d n h))
+  last-digit = eqb→eq (digit d n) (picked d n .edge) (and-l (sameEdge d n) (sameMatch d n) (right-for d n h))
 
-  pub any-in-set : not (eqb (setOf d) 0) ≡ picked d n .matched
-  any-in-set = same-answer (not (eqb (setOf d) 0)) (picked d n .matched) (and-r (eqb (digit d n) (picked d n .edge)) setAny (right-for d n h))
+  any-in-set : not (eqb (setOf d) 0) ≡ picked d n .matched
+  any-in-set = same-answer (not (eqb (setOf d) 0)) (picked d n .matched) (and-r (sameEdge d n) (sameMatch d n) (right-for d n h))
 
 -- ---- whatever matches, an edge is picked: one of the pairs' or edge 0
 abbrev allEdges : List Diagonal → Bool

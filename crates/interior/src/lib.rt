@@ -187,11 +187,11 @@ pub fn test_interior_two(q: Cube, k: AmbiguousFace, l: AmbiguousFace, side: Side
 {
     let values = cube::values(q);
     let d = diagonals_of(q, side);
-    let p = interior_ambiguity(d, k);
-    let r = interior_ambiguity(d, l);
+    let first = interior_ambiguity(d, k);
+    let second = interior_ambiguity(d, l);
     join(
-        look(edge::moves_of(&values, p.edge), p.matched),
-        look(edge::moves_of(&values, r.edge), r.matched),
+        look(edge::moves_of(&values, first.edge), first.matched),
+        look(edge::moves_of(&values, second.edge), second.matched),
     )
 }
 
