@@ -80,9 +80,9 @@ typedef struct {
  * MC33_NO_TILING has the configuration as row and the sub-configuration as column.
  *
  * The edge that is read is picked by the cube's diagonals, the corners 0 6, 1 7, 2 4 and 3 5. `unmatched` is how many
- * picks found none with both ends on the side that they look for (0 to 3): edge 0 was then not picked but left over. The
- * diagonals are the same for every pick, so it is 0 or all of them: 3 in cases 4 and 7, 2 in case 12, 1 in cases 6 and
- * 10. Corners 2 and 5 at 1, the others at -1, in case 4: unmatched 3. Rows of a list do not have it. */
+ * picks found none with both ends on the side that they look for (0 to 3): edge 0 was then not picked but left over.
+ * The diagonals are the same for every pick, so it is 0 or all of them: 3 in cases 4 and 7, 2 in case 12, 1 in cases 6
+ * and 10. Corners 2 and 5 at 1, the others at -1, in case 4: unmatched 3. Rows of a list do not have it. */
 typedef struct {
     uint8_t refusal, code, row, column, centre, unsettled, unmatched;
 } mc33_choice;
