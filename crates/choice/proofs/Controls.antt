@@ -167,15 +167,10 @@ choices =
     ∷ tiled 4 5 (cube 0 0x7f7fffff 0xbf800000 0x5f000000 0xdf000000 0x5f800000 0x5f800000 0) 5 5 0 false 2 0
     ∷ tiled 12 14 (cube 0xc0000000 0xc0000000 0 0xc0000000 0xc0000000 0xc0000000 0x40000000 0) 26 9 0 false 2 0
     ∷ tiled 7 3 (cube 0xbf800000 0x80000000 0 0x3f800000 0 0x3f800000 0xbf800000 0) 15 3 0 false 3 0
-    -- no pick has a match, and all readings are settled, or none is; edge 0 by a match
+    -- no pick has a match, and each reading is settled; edge 0 by a match
     ∷ tiled 4 0 (cube 0xbf800000 0xc0000000 0x3f800000 0xc0000000 0xc0000000 0x3f800000 0xbf800000 0xbf800000) 6 0 0 false 0 3
-    ∷ tiled 6 24 (cube 0xbf800000 0x3f800000 0x3f800000 0x40000000 0x3f800000 0xbf800000 0x3f800000 0xbf800000) 8 24 0 false 0 1
-    ∷ tiled 7 7 (cube 0xbf800000 0xbf800000 0xbf800000 0x40000000 0x3f800000 0xc0000000 0x3f800000 0x3f800000) 14 7 0 false 0 3
     ∷ tiled 10 1 (cube 0xbf800000 0x40000000 0x3f800000 0x3f800000 0xbf800000 0x3f800000 0x40000000 0xbf800000) 19 1 0 false 0 1
-    ∷ tiled 10 0 (cube 0x40000000 0x40000000 0x3f800000 0x40000000 0xc0000000 0xc0000000 0xbf800000 0xc0000000) 20 5 0 false 1 1
-    ∷ tiled 12 0 (cube 0xbf800000 0xbf800000 0x3f800000 0x3f800000 0x40400000 0x3f800000 0x3f800000 0x3f800000) 25 0 0 false 0 2
     ∷ tiled 4 0 (cube 0xbf800000 0x3f800000 0xbf800000 0xbf800000 0xbf800000 0xbf800000 0xbf800000 0x3f800000) 5 0 0 false 0 0
-    ∷ tiled 10 0 (cube 0xbf800000 0x3f800000 0xbf800000 0xbf800000 0xbf800000 0xbf800000 0xbf800000 0x3f800000) 18 0 0 false 0 0
     ∷ []
 
 choices-hold : map (λ t. answerOf (t .case) (t .configuration) (t .q)) choices ≡ map (λ t. t .says) choices
