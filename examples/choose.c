@@ -11,9 +11,9 @@ static void print_choice(int case_number, int configuration, mc33_cube cube)
     if (choice.refusal)
         printf("case %d/%d: refused %d\n", case_number, configuration, choice.refusal);
     else
-        printf("case %d/%d: code %d row %d column %d centre %d unsettled %d unmatched %d\n", case_number,
+        printf("case %d/%d: code %d row %d column %d centre %d unsettled %d unmatched %d readings %d\n", case_number,
                configuration, choice.code, choice.row, choice.column, choice.centre, choice.unsettled,
-               choice.unmatched);
+               choice.unmatched, choice.readings);
 }
 
 static void print_face(mc33_cube cube, int face)

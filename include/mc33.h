@@ -38,10 +38,10 @@ extern "C" {
 
 /* The version of this header. The major number moves where a caller that was built before would read something
  * wrongly (the bytes of a row, the layout of a record, the meaning of a code) or would no longer build, since a name is
- * gone; the shared object's name has it, as libmc33.so.3. The minor number moves where something is added: a function,
+ * gone; the shared object's name has it, as libmc33.so.4. The minor number moves where something is added: a function,
  * a refusal's number, so keep a `default` in a switch over refusals, or what is counted: from 2.1 on `unsettled` counts
- * blank readings too. From 3.0 on a choice has `unmatched`. */
-#define MC33_VERSION_MAJOR 3
+ * blank readings too. From 3.0 on a choice has `unmatched`, from 4.0 on `readings`. */
+#define MC33_VERSION_MAJOR 4
 #define MC33_VERSION_MINOR 0
 #define MC33_VERSION (1000 * MC33_VERSION_MAJOR + MC33_VERSION_MINOR)
 
@@ -82,9 +82,13 @@ typedef struct {
  * The edge that is read is picked by the cube's diagonals, the corners 0 6, 1 7, 2 4 and 3 5. `unmatched` is how many
  * picks found none with both ends on the side that they look for (0 to 3): edge 0 was then not picked but left over.
  * The diagonals are the same for every pick, so it is 0 or all of them: 3 in cases 4 and 7, 2 in case 12, 1 in cases 6
- * and 10. Corners 2 and 5 at 1, the others at -1, in case 4: unmatched 3. Rows of a list do not have it. */
+ * and 10. Corners 2 and 5 at 1, the others at -1, in case 4: unmatched 3. Rows of a list do not have it.
+ *
+ * `readings` is how many face tests and edge readings were made for the choice, and one more where the case-13 test was:
+ * 1 in case 3, 3 in case 4, 1 or 2 in case 6, 3 or 6 in case 7, 2 or 3 in case 10, 2 or 4 in case 12, 6 or 7 in case 13,
+ * 6 where it has no tiling, and 0 in the other cases. mc33_most_readings has the most. Rows do not have it either. */
 typedef struct {
-    uint8_t refusal, code, row, column, centre, unsettled, unmatched;
+    uint8_t refusal, code, row, column, centre, unsettled, unmatched, readings;
 } mc33_choice;
 
 /* A face answer: 1 for true. */
@@ -170,6 +174,13 @@ static inline int mc33_configurations(int case_number)
 {
     static const signed char numbers[15] = {0, 16, 24, 24, 8, 48, 48, 16, 6, 8, 6, 12, 24, 2, 12};
     return 0 <= case_number && case_number < 15 ? numbers[case_number] : 0;
+}
+
+/* How many readings a choice of a case makes at most; 0 for a number that is no case. */
+static inline int mc33_most_readings(int case_number)
+{
+    static const signed char most[15] = {0, 0, 0, 1, 3, 0, 2, 6, 0, 0, 3, 0, 4, 7, 0};
+    return 0 <= case_number && case_number < 15 ? most[case_number] : 0;
 }
 
 #ifdef __cplusplus

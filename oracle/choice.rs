@@ -9,7 +9,8 @@
 //   input BYTES SEED prints about so many bytes of input for the text program, of mixed families
 //   altered          says whether the cubes of such an input turn with every alteration of the tables
 //   text             the text program in plain Rust, over the Rust's handle_cube
-//   choices          all numbers of each choice of such an input: code, row, column, centre, unsettled, unmatched
+//   choices          all numbers of each choice of such an input: code, row, column, centre, unsettled, unmatched,
+//                    readings
 #[path = "choice/altered.rs"]
 mod altered;
 #[path = "choice/compare.rs"]

@@ -31,6 +31,8 @@ LOOKUP, GIVEN = "CASES[self.cube.id as usize]", "self.cube.given"
 NOTES = {
     "handle_cube": [
         (r"let offset = SUB_CONFIG_13\[subconfig\].*", "self.note_sub_configuration(subconfig);", 1)],
+    "test_face": [
+        (r"fn .* \{", "self.note_face();", 1)],
     "interior_ambiguity": [
         (r"fn .* \{", "self.note_pick();", 1),
         (r"edge = \d+;", "self.note_match();", 12)],
@@ -39,6 +41,7 @@ NOTES = {
         (r"let t = .*;", "self.note_t(t);", 12),
         (r"let verify = .*;", "self.note_product(verify);", 12)],
     "interior_test_case13": [
+        (r"fn .* \{", "self.note_case13();", 1),
         (r"let t2 = .*;", "self.note_times(delta, t1, t2);", 1),
         (r"let y2 = .*;", "self.note_places([x1, y1, x2, y2]);", 1)],
 }

@@ -5,8 +5,8 @@
     python3 oracle/library_calls.py answers < CHOICES > crates/library_calls/stdout
 
 The version is the header's. Choices are document 01's own for its cubes to check by hand, with unsettled as document
-02's Change 2 gives it and no pick without a match, and the Rust's for the cubes of mc33's sample, from standard input,
-held to crates/mc33/stdout. Lists, refusals, face tests, edge readings and roots are worked out here from document 01's
+02's Change 2 gives it, no pick without a match and Change 7's figures for the readings, and the Rust's for the cubes of
+mc33's sample, from standard input, held to crates/mc33/stdout. Lists, refusals, face tests, edge readings and roots are worked out here from document 01's
 text. Each operation is made in binary64 and rounded to binary32, which for +, -, ×, / and the root of normal results
 is the same as rounding once.
 """
@@ -20,7 +20,7 @@ CRATES = pathlib.Path(__file__).resolve().parent.parent / 'crates'
 INF, NAN, STEP = math.inf, math.nan, 2.0 ** -23
 
 calls, answers = [], []
-held = []  # the cubes of the next list: the six numbers of a choice behind its refusal
+held = []  # the cubes of the next list: the seven numbers of a choice behind its refusal
 
 
 def rounded(x):
@@ -76,13 +76,13 @@ def choose(text, numbers):
     held.append(numbers)
 
 
-# Code, row, column, centre and unsettled; unmatched is 0.
+# Code, row, column, centre and unsettled, then readings; unmatched is 0.
 def made(case, configuration, cube, *tiling):
-    choose(line(case, configuration, cube), [0, *tiling, 0])
+    choose(line(case, configuration, cube), [0, *tiling[:5], 0, tiling[5]])
 
 
 def refused(case, configuration, cube, why):
-    choose(line(case, configuration, cube), [why, 0, 0, 0, 0, 0, 0])
+    choose(line(case, configuration, cube), [why, 0, 0, 0, 0, 0, 0, 0])
 
 
 def release():
@@ -100,7 +100,7 @@ def outcome(values, numbers, room):
     for place, choice in enumerate(held[:cubes]):
         if choice[0]:
             return choice[0], place, []
-    rows = ([code, row, column, centre + 2 * unsettled] for _, code, row, column, centre, unsettled, _ in held[:cubes])
+    rows = ([code, row, column, centre + 2 * unsettled] for _, code, row, column, centre, unsettled, *_ in held[:cubes])
     return 0, 0, sum(rows, [])
 
 
@@ -115,28 +115,28 @@ def cubes_of_the_sample():
     said = (CRATES / 'mc33/stdout').read_text().split('\n')
     choices = sys.stdin.read().splitlines()
     printed = [answer for answer in said[1:] if answer[:1].isdigit()]
-    if [choice.rpartition(' ')[0] for choice in choices] != printed:
+    if [choice.rsplit(' ', 2)[0] for choice in choices] != printed:
         sys.exit("standard input has not the choices of mc33's sample")
     return [(text, [int(number) for number in choice.split()]) for text, choice in zip(texts[1:], choices)]
 
 
 def hand_cubes():
     note("document 01's cubes to check by hand")
-    made(3, 0, corners({0: 2, 2: 2}), 4, 0, 0, 0, 0)
-    made(3, 0, corners({0: 1, 2: 1, 1: -2, 3: -2}), 3, 0, 0, 0, 0)
-    made(3, 0, corners({0: 1, 2: 1}), 4, 0, 0, 0, 0)
-    made(3, 12, corners({5: -1, 7: -1}, 1), 3, 12, 0, 0, 0)
-    made(3, 0, corners({0: 1, 2: 1, 1: -(1 + STEP)}), 3, 0, 0, 0, 0)
-    made(3, 0, corners({0: 1, 2: 1 - STEP / 2}), 4, 0, 0, 0, 0)
-    made(4, 0, corners({0: 1, 6: 1}), 5, 0, 0, 0, 0)
-    made(4, 0, corners({0: 9, 6: 9}), 6, 0, 0, 0, 0)
-    made(4, 0, corners({0: 3, 6: 3}), 6, 0, 0, 0, 3)
-    made(4, 0, corners({}, 1), 6, 0, 0, 0, 3)
-    made(7, 0, corners({0: 1, 2: 1, 5: 1}), 15, 0, 0, 0, 0)
-    made(10, 0, corners({0: 1, 1: 1, 6: 1, 7: 1}), 20, 5, 0, 0, 1)
-    made(12, 0, corners({0: 1, 1: 1, 2: 1, 7: 1}), 26, 23, 0, 0, 2)
-    made(13, 0, corners({0: 1, 2: 1, 5: 1, 7: 1}), 30, 0, 0, 0, 0)
-    made(13, 0, corners({0: 1, 2: 1, 5: 1, 7: 1}, -2), 29, 0, 0, 0, 0)
+    made(3, 0, corners({0: 2, 2: 2}), 4, 0, 0, 0, 0, 1)
+    made(3, 0, corners({0: 1, 2: 1, 1: -2, 3: -2}), 3, 0, 0, 0, 0, 1)
+    made(3, 0, corners({0: 1, 2: 1}), 4, 0, 0, 0, 0, 1)
+    made(3, 12, corners({5: -1, 7: -1}, 1), 3, 12, 0, 0, 0, 1)
+    made(3, 0, corners({0: 1, 2: 1, 1: -(1 + STEP)}), 3, 0, 0, 0, 0, 1)
+    made(3, 0, corners({0: 1, 2: 1 - STEP / 2}), 4, 0, 0, 0, 0, 1)
+    made(4, 0, corners({0: 1, 6: 1}), 5, 0, 0, 0, 0, 3)
+    made(4, 0, corners({0: 9, 6: 9}), 6, 0, 0, 0, 0, 3)
+    made(4, 0, corners({0: 3, 6: 3}), 6, 0, 0, 0, 3, 3)
+    made(4, 0, corners({}, 1), 6, 0, 0, 0, 3, 3)
+    made(7, 0, corners({0: 1, 2: 1, 5: 1}), 15, 0, 0, 0, 0, 6)
+    made(10, 0, corners({0: 1, 1: 1, 6: 1, 7: 1}), 20, 5, 0, 0, 1, 3)
+    made(12, 0, corners({0: 1, 1: 1, 2: 1, 7: 1}), 26, 23, 0, 0, 2, 4)
+    made(13, 0, corners({0: 1, 2: 1, 5: 1, 7: 1}), 30, 0, 0, 0, 0, 6)
+    made(13, 0, corners({0: 1, 2: 1, 5: 1, 7: 1}, -2), 29, 0, 0, 0, 0, 6)
     choose_list(120, 30, 60)
     release()
 
@@ -144,16 +144,16 @@ def hand_cubes():
 # `sampled` tells the first cube of the sample whose answer passes a test.
 def kinds_of_row(sampled):
     note("a row of each kind: document 01's lines and mc33's sample")
-    made(0, -1, corners({}, 1), 0, 0, 0, 0, 0)
-    made(13, 0, [1, 2, 1, 2, 1, 4, 1, 4], 255, 0, 5, 0, 0)
-    sampled(lambda code, row, column, centre, unsettled, _: code == 255 and row == 1)
-    made(3, 0, corners({0: 1, 2: 1}), 4, 0, 0, 0, 0)
-    sampled(lambda code, row, column, centre, unsettled, _: code == 12 and column == 1 and row == 1)
-    sampled(lambda code, row, column, centre, unsettled, _: centre == 1 and column == 2)
-    sampled(lambda code, row, column, centre, unsettled, _: centre == 1 and column == 0 and row == 5)
-    sampled(lambda code, row, column, centre, unsettled, _: unsettled == 1 and row > 1)
-    sampled(lambda code, row, column, centre, unsettled, _: unsettled == 2 and row > 1)
-    made(4, 0, corners({0: 3, 6: 3}), 6, 0, 0, 0, 3)
+    made(0, -1, corners({}, 1), 0, 0, 0, 0, 0, 0)
+    made(13, 0, [1, 2, 1, 2, 1, 4, 1, 4], 255, 0, 5, 0, 0, 6)
+    sampled(lambda code, row, column, centre, unsettled, *_: code == 255 and row == 1)
+    made(3, 0, corners({0: 1, 2: 1}), 4, 0, 0, 0, 0, 1)
+    sampled(lambda code, row, column, centre, unsettled, *_: code == 12 and column == 1 and row == 1)
+    sampled(lambda code, row, column, centre, unsettled, *_: centre == 1 and column == 2)
+    sampled(lambda code, row, column, centre, unsettled, *_: centre == 1 and column == 0 and row == 5)
+    sampled(lambda code, row, column, centre, unsettled, *_: unsettled == 1 and row > 1)
+    sampled(lambda code, row, column, centre, unsettled, *_: unsettled == 2 and row > 1)
+    made(4, 0, corners({0: 3, 6: 3}), 6, 0, 0, 0, 3, 3)
     note('done, with a row more of room and with none')
     for sizes in (80, 20, 44), (80, 20, 40):
         choose_list(*sizes)
@@ -176,7 +176,15 @@ def picks_without_a_match(sampled):
     note('picks without a match: 1, 2 and 3, and no reading unsettled, or all')
     for number in 1, 2, 3:
         for unsettled in 0, number:
-            sampled(lambda *choice: choice[4:] == (unsettled, number))
+            sampled(lambda *choice: choice[4:6] == (unsettled, number))
+    release()
+
+
+def readings_of_a_case(sampled):
+    note("document 02's Change 7: the least and the most readings of cases 6, 7, 10, 12 and 13")
+    for codes, readings in (((10,), 1), ((8, 9), 2), ((11, 12, 13), 3), ((14, 15), 6), ((21, 22), 2), ((18, 19, 20), 3),
+                            ((27, 28), 2), ((24, 25, 26), 4), (range(29, 36), 6), ((36,), 7), ((37,), 7)):
+        sampled(lambda code, *choice: code in codes and choice[-1] == readings)
     release()
 
 
@@ -187,20 +195,20 @@ def refusals_of_a_cube():
         refused(*bad)
         choose_list(8, 2, 4)
         release()
-    made(3, 0, good, 4, 0, 0, 0, 0)
+    made(3, 0, good, 4, 0, 0, 0, 0, 1)
     refused(4, 0, corners({0: -INF}, 1), 3)
     refused(15, 0, good, 1)
     for sizes in (8, 2, 4), (16, 4, 12), (24, 6, 12), (24, 6, 11):
         choose_list(*sizes)
     release()
-    made(3, 0, good, 4, 0, 0, 0, 0)
-    made(0, -1, good, 0, 0, 0, 0, 0)
+    made(3, 0, good, 4, 0, 0, 0, 0, 1)
+    made(0, -1, good, 0, 0, 0, 0, 0, 0)
     refused(-1, 0, good, 1)
     refused(4, -1, good, 2)
     for sizes in (24, 6, 12), (32, 8, 16):
         choose_list(*sizes)
     release()
-    made(3, 0, good, 4, 0, 0, 0, 0)
+    made(3, 0, good, 4, 0, 0, 0, 0, 1)
     refused(0, 0, good, 2)
     refused(13, 1, corners({3: NAN}, 1), 3)
     for sizes in (16, 4, 8), (24, 6, 12):
@@ -337,6 +345,7 @@ def main():
     hand_cubes()
     kinds_of_row(sampled)
     picks_without_a_match(sampled)
+    readings_of_a_case(sampled)
     refusals_of_a_cube()
     faces()
     readings()

@@ -1,7 +1,7 @@
 #!/usr/bin/env python3
-"""Holds the tables of names that stand in several languages to one: the tilings' names to the proved code's, and the
-configurations and the refusals' texts to the header's, which header.c beside this holds to the library. Prints a line
-for each; status 1 where one differs."""
+"""Holds the tables of names that stand in several languages to one: the tilings' names to the proved code's, the
+readings to the proved figures, and the configurations and the refusals' texts to the header's, which header.c beside
+this holds to the library. Prints a line for each; status 1 where one differs."""
 import re
 import sys
 from pathlib import Path
@@ -56,6 +56,19 @@ def configurations():
     hold("configurations, USING", [0] + [int(number) for _, number in rows], wanted)
 
 
+def readings():
+    figures = (TOP / "crates/choice/specs/Figures.antt").read_text()
+    listed = re.findall(r"^    (?:∷ )?(none|figure \d+ \d+ \d+)$", within(figures, "\nfigures =\n", "∷ []"), re.M)
+    wanted = [numbers(figure)[1:] or [0, 0] for figure in listed]
+    most = [last for _, last in wanted]
+    hold("readings, the header", numbers(within(header, "static const signed char most[15] = {", "}")), most)
+    hold("readings, Rust", numbers(within(rust, "const MOST: [u8; 15] = [", "]")), most)
+    hold("readings, Python", [mc33.MOST_READINGS[case] for case in range(15)], most)
+    rows = re.findall(r"^\| ([\d, ]+) \|.*\| (\d+) \| (\d+) \|$", within(using, "| case | makes |", "\n\n"), re.M)
+    told = {case: [int(least), int(last)] for cases, least, last in rows for case in numbers(cases)}
+    hold("readings, USING", [told.get(case) for case in range(15)], wanted)
+
+
 def refusals():
     numbered = dict(re.findall(r"(MC33_\w+) = (\d+)", within(header, "MC33_ANSWERED = 0,", "};")))
     texts = dict(re.findall(r'case (MC33_\w+): return "([^"]*)";', header))
@@ -71,5 +84,6 @@ def refusals():
 
 tilings()
 configurations()
+readings()
 refusals()
 sys.exit(wrong != 0)

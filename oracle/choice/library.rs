@@ -8,9 +8,9 @@ use declared::Cube;
 
 impl std::fmt::Display for Mc33Choice {
     fn fmt(&self, f: &mut std::fmt::Formatter) -> std::fmt::Result {
-        let Mc33Choice { refusal, code, row, column, centre, unsettled, unmatched } = self;
+        let Mc33Choice { refusal, code, row, column, centre, unsettled, unmatched, readings } = self;
         write!(f, "refusal {refusal} code {code} row {row} column {column} ")?;
-        write!(f, "centre {centre} unsettled {unsettled} unmatched {unmatched}")
+        write!(f, "centre {centre} unsettled {unsettled} unmatched {unmatched} readings {readings}")
     }
 }
 

@@ -10,14 +10,20 @@ const UNSETTLED: usize = SUB_CONFIGURATION + 2 * 64;
 const BLANK: usize = UNSETTLED + 15 * 4;
 const UNMATCHED: usize = BLANK + 15;
 const EDGE_0_MATCHED: usize = UNMATCHED + 15 * 4;
-const WAY: usize = EDGE_0_MATCHED + 15;
+const READ: usize = EDGE_0_MATCHED + 15;
+const WAY: usize = READ + 15 * 8;
 const IN_CHOICE: usize = WAY + 2 * 6;
 const ALONE: usize = IN_CHOICE + 12 * 5;
 const FACE: usize = ALONE + 12 * 5;
 pub const THINGS: usize = FACE + 13 * 2;
 
-// The most readings a choice of the case makes.
-const READINGS: [usize; 15] = [0, 0, 0, 0, 3, 0, 1, 3, 0, 0, 1, 0, 2, 0, 0];
+// The most edge readings a choice of the case makes.
+const EDGES: [usize; 15] = [0, 0, 0, 0, 3, 0, 1, 3, 0, 0, 1, 0, 2, 0, 0];
+
+// Document 02, Change 7: how many face tests, edge readings and case-13 tests together, the least and the most.
+const FIGURES: [[usize; 2]; 15] = [
+    [0, 0], [0, 0], [0, 0], [1, 1], [3, 3], [0, 0], [1, 2], [3, 6], [0, 0], [0, 0], [2, 3], [0, 0], [2, 4], [6, 7], [0, 0],
+];
 
 fn tiled(code: usize, row: usize, column: usize) -> usize {
     TILED + (code * 48 + row) * 12 + column
@@ -38,6 +44,7 @@ pub fn face_answer(face: i8, answer: bool) -> usize {
 
 pub fn met(rust: &Noted, choice: &Mc33Choice, mut meet: impl FnMut(usize)) {
     meet(FAMILY + family_of(rust.cube.given));
+    meet(READ + rust.case as usize * 8 + choice.readings as usize);
     if let Some(number) = rust.sub_configuration {
         meet(SUB_CONFIGURATION + rust.config * 64 + number);
     }
@@ -81,14 +88,21 @@ pub fn wanted() -> Vec<(usize, String)> {
             all.push((WAY + configuration * 6 + way, format!("13 configuration {configuration}: {title}")));
         }
     }
+    for case in 0..15 {
+        let [least, most] = FIGURES[case];
+        all.push((READ + case * 8 + least, format!("case {case} readings {least}")));
+        if most > least {
+            all.push((READ + case * 8 + most, format!("case {case} readings {most}")));
+        }
+    }
     for case in 1..15 {
-        for number in 0..=READINGS[case] {
+        for number in 0..=EDGES[case] {
             all.push((UNSETTLED + case * 4 + number, format!("case {case} unsettled {number}")));
         }
         all.push((UNMATCHED + case * 4, format!("case {case} unmatched 0")));
-        if READINGS[case] > 0 {
+        if EDGES[case] > 0 {
             // The four pairs are the same for each face, so all picks have a match, or none has.
-            let most = READINGS[case];
+            let most = EDGES[case];
             all.push((UNMATCHED + case * 4 + most, format!("case {case} unmatched {most}")));
             all.push((EDGE_0_MATCHED + case, format!("case {case} edge 0 by a match")));
             all.push((BLANK + case, format!("case {case} blank")));
@@ -163,12 +177,16 @@ pub fn print_met(counts: &[u64]) {
     println!("\n{FAMILIES} cases and configurations, least {least}");
     print_sub_configurations(counts);
     for case in [4, 6, 7, 10, 12] {
-        let most = READINGS[case];
+        let most = EDGES[case];
         let numbers = |start: usize| &counts[start + case * 4..=start + case * 4 + most];
         let (unsettled, blank) = (numbers(UNSETTLED), counts[BLANK + case]);
         println!("case {case}: unsettled 0 to {most}: {unsettled:?}; blank readings: {blank}");
         let (unmatched, matched) = (numbers(UNMATCHED), counts[EDGE_0_MATCHED + case]);
         println!("  unmatched 0 to {most}: {unmatched:?}; edge 0 by a match: {matched}");
+    }
+    println!();
+    for case in 0..15 {
+        println!("case {case}: readings 0 to 7: {:?}", &counts[READ + case * 8..READ + case * 8 + 8]);
     }
     print_readings(counts, IN_CHOICE, "readings in choices");
     print_readings(counts, ALONE, "readings alone");

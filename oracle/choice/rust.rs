@@ -204,6 +204,10 @@ impl<const ALTERED: bool> Counting<ALTERED> {
         self.unsettled.set(self.unsettled.get() + (product == 0.0 || is_nan(product)) as u8);
     }
 
+    fn note_face(&self) {}
+
+    fn note_case13(&self) {}
+
     fn note_pick(&self) {}
 
     fn note_match(&self) {}
@@ -285,7 +289,7 @@ fn within(value: f32) -> bool {
     value < 1.0 && value > 0.0
 }
 
-// The Rust with notes of its picks and readings, of the way through the case-13 test and of the sub-configuration.
+// The Rust with notes of its calls, picks and readings, of the way through the case-13 test and of the sub-configuration.
 pub struct Noted {
     pub cube: Cube,
     pub case: i8,
@@ -297,6 +301,7 @@ pub struct Noted {
     picked: Cell<usize>,
     readings: [Cell<Reading>; 3],
     made: Cell<usize>,
+    calls: Cell<u8>,
     pub way: Cell<Option<usize>>,
 }
 
@@ -314,6 +319,7 @@ impl Noted {
             picked: Cell::new(0),
             readings: from_fn(|_| Cell::new(reading)),
             made: Cell::new(0),
+            calls: Cell::new(0),
             way: Cell::new(None),
         }
     }
@@ -324,6 +330,7 @@ impl Noted {
         self.sub_configuration = None;
         self.picked.set(0);
         self.made.set(0);
+        self.calls.set(0);
         self.way.set(None);
     }
 
@@ -339,6 +346,19 @@ impl Noted {
         self.sub_configuration = Some(number);
     }
 
+    // Document 02, Change 7: a call of test_face, interior_ambiguity_verification or interior_test_case13.
+    fn note_call(&self) {
+        self.calls.set(self.calls.get() + 1);
+    }
+
+    fn note_face(&self) {
+        self.note_call();
+    }
+
+    fn note_case13(&self) {
+        self.note_call();
+    }
+
     fn note_pick(&self) {
         let picked = self.picked.get();
         self.matched[picked].set(false);
@@ -350,6 +370,7 @@ impl Noted {
     }
 
     fn note_edge(&self, edge: i8) {
+        self.note_call();
         let made = self.made.get();
         self.readings[made].set(Reading { edge: edge as usize, kind: RISING, t: 0.0, product: 0.0 });
         self.made.set(made + 1);
@@ -405,15 +426,19 @@ impl Noted {
     pub fn choice(&self) -> Mc33Choice {
         let unmatched = self.picked().filter(|matched| !matched).count() as u8;
         let unsettled = self.made().filter(Reading::is_unsettled).count() as u8;
+        let readings = self.calls.get();
         let Note { code, row, column } = self.note;
         match (code, self.sub_configuration) {
-            (0, None) if self.case == 0 => Mc33Choice::default(),
+            (0, None) if self.case == 0 => Mc33Choice { readings, ..Mc33Choice::default() },
             (0, Some(number)) => {
                 let (row, column) = (self.config as u8, number as u8);
-                Mc33Choice { code: 255, row, column, ..Mc33Choice::default() }
+                Mc33Choice { code: 255, row, column, readings, ..Mc33Choice::default() }
             }
             (0, None) => panic!("case {} has no tiling", self.case),
-            _ => Mc33Choice { refusal: 0, code, row, column, centre: self.centre as u8, unsettled, unmatched },
+            _ => {
+                let centre = self.centre as u8;
+                Mc33Choice { refusal: 0, code, row, column, centre, unsettled, unmatched, readings }
+            }
         }
     }
 }

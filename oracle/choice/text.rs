@@ -126,8 +126,8 @@ pub fn text() -> bool {
 pub fn choices() -> bool {
     let mut rust = Both::new();
     for cube in sampled_cubes() {
-        let Mc33Choice { code, row, column, centre, unsettled, unmatched, .. } = rust.choice(&cube);
-        println!("{code} {row} {column} {centre} {unsettled} {unmatched}");
+        let Mc33Choice { code, row, column, centre, unsettled, unmatched, readings, .. } = rust.choice(&cube);
+        println!("{code} {row} {column} {centre} {unsettled} {unmatched} {readings}");
     }
     true
 }

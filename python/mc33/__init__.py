@@ -14,10 +14,10 @@ from .refusals import REFUSALS, Refused, refusal_text
 from .release import VERSION as __version__
 from .routines import Reading, choose, read_edge, root, root_bits, test_face, version
 from .rows import Choice, Columns, choices, columns
-from .tables import CONFIGURATIONS, EMPTY, NO_TILING, ROW, TILINGS
+from .tables import CONFIGURATIONS, EMPTY, MOST_READINGS, NO_TILING, ROW, TILINGS
 
 __all__ = [
-    "CONFIGURATIONS", "EMPTY", "NO_TILING", "REFUSALS", "ROW", "TILINGS", "Choice", "Columns", "Reading", "Refused",
-    "choices", "choose", "choose_list", "columns", "read_edge", "refusal_text", "root", "root_bits", "test_face",
-    "version",
+    "CONFIGURATIONS", "EMPTY", "MOST_READINGS", "NO_TILING", "REFUSALS", "ROW", "TILINGS", "Choice", "Columns", "Reading",
+    "Refused", "choices", "choose", "choose_list", "columns", "read_edge", "refusal_text", "root", "root_bits",
+    "test_face", "version",
 ]

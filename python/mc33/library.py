@@ -20,7 +20,8 @@ class CubeRecord(ctypes.Structure):
 
 
 class ChoiceRecord(ctypes.Structure):
-    _fields_ = [(name, c_uint8) for name in ("refusal", "code", "row", "column", "centre", "unsettled", "unmatched")]
+    _fields_ = [(name, c_uint8) for name in (
+        "refusal", "code", "row", "column", "centre", "unsettled", "unmatched", "readings")]
 
 
 class FaceRecord(ctypes.Structure):

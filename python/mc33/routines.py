@@ -46,7 +46,7 @@ def choose(case: int, configuration: int, corners: Iterable[float]) -> Choice:
     _look_at(said.refusal)
     if said.code not in TILINGS and said.code not in (EMPTY, NO_TILING):
         raise ValueError(f"the library gave code {said.code}, which this version does not know")
-    return Choice(said.code, said.row, said.column, said.centre, said.unsettled, said.unmatched)
+    return Choice(said.code, said.row, said.column, said.centre, said.unsettled, said.unmatched, said.readings)
 
 
 def test_face(corners: Iterable[float], face: int) -> bool:

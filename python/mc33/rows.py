@@ -23,6 +23,9 @@ class Choice(NamedTuple):
     `unmatched` is how many picks of an edge to read found no diagonal of the cube with both ends on the side that they
     look for, so that edge 0 was left over: 0 to 3, and 0 or all of the picks. It is None in what `choices` reads, since
     rows do not have it.
+
+    `readings` is how many face tests and edge readings were made for the choice, and one more where the case-13 test
+    was: at most MOST_READINGS of the case. Code EMPTY has 0, code NO_TILING 6. It is None in what `choices` reads, too.
     """
 
     code: int
@@ -31,6 +34,7 @@ class Choice(NamedTuple):
     centre: int
     unsettled: int
     unmatched: Optional[int] = None
+    readings: Optional[int] = None
 
     @property
     def name(self) -> str:

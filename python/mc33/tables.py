@@ -1,4 +1,4 @@
-"""What document 01 counts: the codes with their names, and the configurations of each case."""
+"""What documents 01 and 02 count: the codes with their names, and for each case its configurations and most readings."""
 from __future__ import annotations
 
 from typing import Dict
@@ -18,3 +18,6 @@ TILINGS: Dict[int, str] = dict(enumerate(
 # The configurations by case.
 CONFIGURATIONS: Dict[int, range] = {0: range(-1, 0), **{
     case: range(count) for case, count in enumerate((16, 24, 24, 8, 48, 48, 16, 6, 8, 6, 12, 24, 2, 12), 1)}}
+
+# How many readings a choice makes at most, by case.
+MOST_READINGS: Dict[int, int] = dict(enumerate((0, 0, 0, 1, 3, 0, 2, 6, 0, 0, 3, 0, 4, 7, 0)))

@@ -90,7 +90,7 @@ class Done(Command):
         self.assertEqual(self.done("/dev/null", "/dev/null", "-"), b"")
 
     def test_help_and_version(self):
-        for words, *arguments in (b"list", "--help"), (b"corners", "list", "--help"), (b"mc33 3.0.0\n", "--version"):
+        for words, *arguments in (b"list", "--help"), (b"corners", "list", "--help"), (b"mc33 4.0.0\n", "--version"):
             ended = run("-m", "mc33", *arguments, library="/nowhere")
             self.assertEqual((ended.returncode, ended.stderr), (0, b""))
             self.assertIn(words, ended.stdout)

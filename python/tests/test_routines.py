@@ -12,23 +12,24 @@ from mc33.library import ChoiceRecord, EdgeRecord, FaceRecord
 from .support import LEVEL, TIED, needs_numpy, numpy
 
 # Document 01, 'Cubes to check by hand': case, configuration, corners that are not the last number, name, row, and
-# unsettled where it is said there or in document 02, Change 2. A diagonal matches in each that picks an edge.
+# unsettled where it is said there or in document 02, Change 2; then readings by Change 7. A diagonal matches in each that
+# picks an edge.
 BY_HAND = [
-    (3, 0, {0: 2, 2: 2}, -1, "3_2", 0, None),
-    (3, 0, {0: 1, 2: 1, 1: -2, 3: -2}, -1, "3_1", 0, None),
-    (3, 0, {0: 1, 2: 1}, -1, "3_2", 0, None),
-    (3, 12, {5: -1, 7: -1}, 1, "3_1", 12, None),
-    (3, 0, {0: 1, 2: 1, 1: -(1 + 2**-23)}, -1, "3_1", 0, None),
-    (3, 0, {0: 1, 2: 1 - 2**-24}, -1, "3_2", 0, None),
-    (4, 0, {0: 1, 6: 1}, -1, "4_1", 0, None),
-    (4, 0, {0: 9, 6: 9}, -1, "4_2", 0, 0),
-    (4, 0, {0: 3, 6: 3}, -1, "4_2", 0, 3),
-    (4, 0, {}, 1, "4_2", 0, 3),
-    (7, 0, {0: 1, 2: 1, 5: 1}, -1, "7_4_2", 0, None),
-    (10, 0, {0: 1, 1: 1, 6: 1, 7: 1}, -1, "10_1_2", 5, 1),
-    (12, 0, {0: 1, 1: 1, 2: 1, 7: 1}, -1, "12_1_2", 23, 2),
-    (13, 0, {0: 1, 2: 1, 5: 1, 7: 1}, -1, "13_1_", 0, None),
-    (13, 0, {0: 1, 2: 1, 5: 1, 7: 1}, -2, "13_1", 0, None),
+    (3, 0, {0: 2, 2: 2}, -1, "3_2", 0, None, 1),
+    (3, 0, {0: 1, 2: 1, 1: -2, 3: -2}, -1, "3_1", 0, None, 1),
+    (3, 0, {0: 1, 2: 1}, -1, "3_2", 0, None, 1),
+    (3, 12, {5: -1, 7: -1}, 1, "3_1", 12, None, 1),
+    (3, 0, {0: 1, 2: 1, 1: -(1 + 2**-23)}, -1, "3_1", 0, None, 1),
+    (3, 0, {0: 1, 2: 1 - 2**-24}, -1, "3_2", 0, None, 1),
+    (4, 0, {0: 1, 6: 1}, -1, "4_1", 0, None, 3),
+    (4, 0, {0: 9, 6: 9}, -1, "4_2", 0, 0, 3),
+    (4, 0, {0: 3, 6: 3}, -1, "4_2", 0, 3, 3),
+    (4, 0, {}, 1, "4_2", 0, 3, 3),
+    (7, 0, {0: 1, 2: 1, 5: 1}, -1, "7_4_2", 0, None, 6),
+    (10, 0, {0: 1, 1: 1, 6: 1, 7: 1}, -1, "10_1_2", 5, 1, 3),
+    (12, 0, {0: 1, 1: 1, 2: 1, 7: 1}, -1, "12_1_2", 23, 2, 4),
+    (13, 0, {0: 1, 2: 1, 5: 1, 7: 1}, -1, "13_1_", 0, None, 6),
+    (13, 0, {0: 1, 2: 1, 5: 1, 7: 1}, -2, "13_1", 0, None, 6),
 ]
 WITH_CENTRE = {"7_3", "10_2", "10_2_", "12_2", "12_2_", "13_3", "13_3_", "13_4"}
 
@@ -43,26 +44,26 @@ def said(routine, *arguments):
 
 class Choose(unittest.TestCase):
     def test_cubes_by_hand(self):
-        for case, configuration, named, other, name, row, unsettled in BY_HAND:
+        for case, configuration, named, other, name, row, unsettled, readings in BY_HAND:
             with self.subTest(case=case, corners=named):
                 choice = mc33.choose(case, configuration, [named.get(corner, other) for corner in range(8)])
                 self.assertEqual((choice.name, choice.row), (name, row))
                 self.assertIn(unsettled, (None, choice.unsettled))
-                self.assertEqual(choice.unmatched, 0)
+                self.assertEqual((choice.unmatched, choice.readings), (0, readings))
 
     def test_a_cube_without_a_tiling(self):
-        self.assertEqual(mc33.choose(13, 0, [1, 2, 1, 2, 1, 4, 1, 4]), (mc33.NO_TILING, 0, 5, 0, 0, 0))
-        self.assertEqual(mc33.choose(0, -1, TIED), (mc33.EMPTY, 0, 0, 0, 0, 0))
+        self.assertEqual(mc33.choose(13, 0, [1, 2, 1, 2, 1, 4, 1, 4]), (mc33.NO_TILING, 0, 5, 0, 0, 0, 6))
+        self.assertEqual(mc33.choose(0, -1, TIED), (mc33.EMPTY, 0, 0, 0, 0, 0, 0))
 
     def test_picks_without_a_match(self):
         # As docs/DIFFERENCES.md, F11, has them from the Rust: one pick, two and three; and edge 0 by a match.
         for case, configuration, corners, choice in (
-                (4, 0, [-1, -1, 1, -1, -1, 1, -1, -1], (6, 0, 0, 0, 0, 3)),
-                (4, 0, [-1, 1, -1, -1, -1, -1, -1, 1], (5, 0, 0, 0, 0, 0)),
-                (6, 24, [-1, 1, 1, 2, 1, -1, 1, -1], (8, 24, 0, 0, 0, 1)),
-                (7, 7, [-1, -1, -1, 2, 1, -2, 1, 1], (14, 7, 0, 0, 0, 3)),
-                (10, 1, [-1, 2, 1, 1, -1, 1, 2, -1], (19, 1, 0, 0, 0, 1)),
-                (12, 0, [-1, -1, 1, 1, 3, 1, 1, 1], (25, 0, 0, 0, 0, 2))):
+                (4, 0, [-1, -1, 1, -1, -1, 1, -1, -1], (6, 0, 0, 0, 0, 3, 3)),
+                (4, 0, [-1, 1, -1, -1, -1, -1, -1, 1], (5, 0, 0, 0, 0, 0, 3)),
+                (6, 24, [-1, 1, 1, 2, 1, -1, 1, -1], (8, 24, 0, 0, 0, 1, 2)),
+                (7, 7, [-1, -1, -1, 2, 1, -2, 1, 1], (14, 7, 0, 0, 0, 3, 6)),
+                (10, 1, [-1, 2, 1, 1, -1, 1, 2, -1], (19, 1, 0, 0, 0, 1, 3)),
+                (12, 0, [-1, -1, 1, 1, 3, 1, 1, 1], (25, 0, 0, 0, 0, 2, 4))):
             with self.subTest(case=case, corners=corners):
                 self.assertEqual(mc33.choose(case, configuration, corners), choice)
 
@@ -76,6 +77,16 @@ class Choose(unittest.TestCase):
                     self.assertEqual(answer, 2)
                 else:
                     self.assertIsInstance(answer, mc33.Choice)
+
+    def test_readings(self):
+        # Document 02, Change 7: the least and the most of each case, each met, and none else.
+        figures = {3: {1}, 4: {3}, 6: {1, 2}, 7: {3, 6}, 10: {2, 3}, 12: {2, 4}, 13: {6, 7}}
+        random = Random(2)
+        for case, configurations in mc33.CONFIGURATIONS.items():
+            cubes = ([random.uniform(-2, 2) for _ in range(8)] for _ in range(1000))
+            seen = {mc33.choose(case, random.choice(configurations), cube).readings for cube in cubes}
+            self.assertEqual((case, seen), (case, figures.get(case, {0})))
+            self.assertEqual(mc33.MOST_READINGS[case], max(seen))
 
     def test_names_are_of_their_case(self):
         random, seen = Random(1), set()
@@ -99,12 +110,12 @@ class Choose(unittest.TestCase):
 
     def test_corners_of_any_kind(self):
         for corners in (tuple(LEVEL), array("d", LEVEL), iter(LEVEL), map(float, LEVEL)):
-            self.assertEqual(mc33.choose(4, 0, corners), (6, 0, 0, 0, 3, 0))
+            self.assertEqual(mc33.choose(4, 0, corners), (6, 0, 0, 0, 3, 0, 3))
 
     @needs_numpy
     def test_numpy(self):
         for kind in ("f4", "f8", "i4", ">f4"):
-            self.assertEqual(mc33.choose(numpy.int8(4), numpy.int64(0), numpy.array(LEVEL, kind)), (6, 0, 0, 0, 3, 0))
+            self.assertEqual(mc33.choose(numpy.int8(4), numpy.int64(0), numpy.array(LEVEL, kind)), (6, 0, 0, 0, 3, 0, 3))
 
     def test_refusals(self):
         self.assertEqual(said(mc33.choose, 4, 0, LEVEL[:7] + [math.inf]), 3)

@@ -8,8 +8,8 @@ import mc33
 
 from .support import ROWS, needs_numpy, numpy
 
-# Rows have no unmatched.
-CHOICES = [(4, 0, 0, 0, 0, None), (6, 0, 0, 0, 3, None), (255, 0, 5, 0, 0, None)]
+# Rows have no unmatched and no readings.
+CHOICES = [(4, 0, 0, 0, 0, None, None), (6, 0, 0, 0, 3, None, None), (255, 0, 5, 0, 0, None, None)]
 READERS = (mc33.choices, mc33.columns)
 
 

@@ -24,6 +24,9 @@ pub struct Tiling {
     /// so that edge 0 was left over: 0 to 3, and 0 or all of the picks. `None` where the tiling was read from a row,
     /// which does not have it.
     pub unmatched: Option<u8>,
+    /// How many face tests and edge readings were made for the choice, and one more where the case-13 test was: 0 to 7,
+    /// and at most [`most_readings`](crate::most_readings) of the case. `None` where the tiling was read from a row.
+    pub readings: Option<u8>,
 }
 
 /// The tables' names in the order of their codes.
@@ -70,7 +73,31 @@ pub enum Choice {
     Tiled(Tiling),
 }
 
-/// The choice that these numbers are, or `None` where the library gives no such numbers. A row has no `unmatched`.
+impl Choice {
+    /// How many face tests and edge readings were made for the choice, and one more where the case-13 test was: 0 for
+    /// [`Choice::Empty`], 6 for [`Choice::Untiled`]. `None` for a tiling that was read from a row.
+    ///
+    /// ```
+    /// use mc33::{choose, Choice, Cube};
+    /// let tied = Cube([1.0, -1.0, 1.0, -1.0, -1.0, -1.0, -1.0, -1.0]);
+    /// assert_eq!(choose(3, 0, tied).map(|choice| choice.readings()), Ok(Some(1)));
+    /// let untiled = choose(13, 0, Cube([1.0, 2.0, 1.0, 2.0, 1.0, 4.0, 1.0, 4.0]));
+    /// assert_eq!(untiled.map(|choice| choice.readings()), Ok(Some(6)));
+    /// ```
+    pub fn readings(&self) -> Option<u8> {
+        match self {
+            Choice::Empty => Some(0),
+            Choice::Untiled { .. } => Some(UNTILED_READINGS),
+            Choice::Tiled(tiling) => tiling.readings,
+        }
+    }
+}
+
+/// That there is no tiling is told by six face tests.
+const UNTILED_READINGS: u8 = 6;
+
+/// The choice that these numbers are, or `None` where the library gives no such numbers. A row has no `unmatched` and no
+/// `readings`.
 pub fn choice_of(
     code: u8,
     row: u8,
@@ -78,20 +105,23 @@ pub fn choice_of(
     centre: u8,
     unsettled: u8,
     unmatched: Option<u8>,
+    readings: Option<u8>,
 ) -> Option<Choice> {
+    let made = |few| readings.unwrap_or(few);
     match (code, centre, unsettled, unmatched.unwrap_or(0)) {
-        (0, 0, 0, 0) if (row, column) == (0, 0) => Some(Choice::Empty),
-        (255, 0, 0, 0) => Some(Choice::Untiled {
+        (0, 0, 0, 0) if (row, column, made(0)) == (0, 0, 0) => Some(Choice::Empty),
+        (255, 0, 0, 0) if made(UNTILED_READINGS) == UNTILED_READINGS => Some(Choice::Untiled {
             configuration: row,
             sub_configuration: column,
         }),
-        (1..=38, 0..=1, 0..=3, 0..=3) => Some(Choice::Tiled(Tiling {
+        (1..=38, 0..=1, 0..=3, 0..=3) if made(0) <= 7 => Some(Choice::Tiled(Tiling {
             code,
             row,
             column,
             centre: centre == 1,
             unsettled,
             unmatched,
+            readings,
         })),
         _ => None,
     }
@@ -109,7 +139,7 @@ pub fn choice_of(
 /// use mc33::{Choice, NotARow};
 /// let Ok(Choice::Tiled(tiling)) = Choice::try_from([6, 0, 0, 6]) else { panic!() };
 /// assert_eq!((tiling.name(), tiling.centre, tiling.unsettled), ("4_2", false, 3));
-/// assert_eq!(tiling.unmatched, None);
+/// assert_eq!((tiling.unmatched, tiling.readings), (None, None));
 /// assert_eq!(Choice::try_from([0, 0, 0, 0]), Ok(Choice::Empty));
 /// let untiled = Choice::try_from([255, 0, 5, 0]);
 /// assert!(matches!(untiled, Ok(Choice::Untiled { configuration: 0, sub_configuration: 5, .. })));
@@ -120,7 +150,7 @@ impl TryFrom<[u8; ROW_BYTES]> for Choice {
 
     fn try_from(row_bytes: [u8; ROW_BYTES]) -> Result<Choice, NotARow> {
         let [code, row, column, last] = row_bytes;
-        choice_of(code, row, column, last % 2, last / 2, None).ok_or(NotARow::Bytes(row_bytes))
+        choice_of(code, row, column, last % 2, last / 2, None, None).ok_or(NotARow::Bytes(row_bytes))
     }
 }
 

@@ -38,7 +38,7 @@ pub use refusal::{ListRefused, Refusal};
 use library::{Mc33Choice, Mc33Edge, Mc33Face, Mc33Outcome};
 
 /// The version of the library that this crate was written for: (major, minor).
-pub const VERSION: (u32, u32) = (3, 0);
+pub const VERSION: (u32, u32) = (4, 0);
 
 /// The version of the library that is linked: (major, minor).
 ///
@@ -82,7 +82,7 @@ impl From<Cube> for [f32; 8] {
 /// // Corners 2 and 5 are on no diagonal together: the three picks have no match, and edge 0 is left over.
 /// let unpaired = Cube([-1.0, -1.0, 1.0, -1.0, -1.0, 1.0, -1.0, -1.0]);
 /// let Ok(Choice::Tiled(tiling)) = choose(4, 0, unpaired) else { panic!() };
-/// assert_eq!((tiling.unsettled, tiling.unmatched), (0, Some(3)));
+/// assert_eq!((tiling.unsettled, tiling.unmatched, tiling.readings), (0, Some(3), Some(3)));
 /// assert_eq!(choose(4, 8, cube), Err(Refusal::NoConfiguration));
 /// assert_eq!(choose(0, -1, cube), Ok(Choice::Empty));
 /// ```
@@ -101,9 +101,12 @@ fn choice_said(said: Mc33Choice) -> Result<Choice, Refusal> {
         centre,
         unsettled,
         unmatched,
+        readings,
         ..
     } = said;
-    choice::choice_of(code, row, column, centre, unsettled, Some(unmatched)).ok_or(refusal::NO_NAME)
+    let (unmatched, readings) = (Some(unmatched), Some(readings));
+    choice::choice_of(code, row, column, centre, unsettled, unmatched, readings)
+        .ok_or(refusal::NO_NAME)
 }
 
 /// How many configurations a case has, from 0 on: 0 for case 0, which has -1 alone, and for a number that is no case.
@@ -115,6 +118,18 @@ pub fn configurations(case: i8) -> i8 {
     const NUMBERS: [i8; 15] = [0, 16, 24, 24, 8, 48, 48, 16, 6, 8, 6, 12, 24, 2, 12];
     let place = usize::try_from(case).unwrap_or(NUMBERS.len());
     NUMBERS.get(place).copied().unwrap_or(0)
+}
+
+/// How many readings a choice of a case makes at most, as [`Tiling::readings`] counts them; 0 for a number that is no
+/// case. Summed over a list's cases it is a ceiling on the list's work.
+///
+/// ```
+/// assert_eq!([1, 3, 7, 13, 15].map(mc33::most_readings), [0, 1, 6, 7, 0]);
+/// ```
+pub fn most_readings(case: i8) -> u8 {
+    const MOST: [u8; 15] = [0, 0, 0, 1, 3, 0, 2, 6, 0, 0, 3, 0, 4, 7, 0];
+    let place = usize::try_from(case).unwrap_or(MOST.len());
+    MOST.get(place).copied().unwrap_or(0)
 }
 
 /// Tests a face: -6..-1 or 1..6.

@@ -15,6 +15,7 @@ pub struct Mc33Choice {
     pub centre: u8,
     pub unsettled: u8,
     pub unmatched: u8,
+    pub readings: u8,
 }
 
 #[derive(Clone, Copy, Debug, PartialEq)]

@@ -1,5 +1,6 @@
 -- That the definitions say something, by computation: each refusal, at its edges and in document 01's order; each of the 38 tilings; each number of unsettled
--- readings that the ranges allow, and of picks without a match; what the ranges do not allow; which inner numbers would leave their tables. Values are written as bits. Assumes nothing.
+-- readings that the ranges allow, of picks without a match and of readings in all; what the ranges do not allow; which inner numbers would leave their tables. Values are written as bits.
+-- Assumes nothing.
 use mathlib.Core.Path.{_≡_, refl}
 use mathlib.Core.Bool.{Bool, true, false, cond}
 use mathlib.Core.List.{List, [], _∷_, _++_, map, foldr}
@@ -27,7 +28,8 @@ use Rattle.families.specs.Tables.{«TEST_3», «TEST_4», «TEST_6», «TEST_7�
 use Rattle.families.specs.Plans.{plan3, plan4, plan6, part7, plan7, plans, planOf}
 use Rattle.choice.specs.Choice.{Said, made, refused, refusalOf, choiceOf, answerOf}
 use Rattle.choice.specs.Inner.{handsOn, isOffset}
-use Rattle.choice.specs.Ranges.{readings, holdsMinus1, placed, inRanges, saidInRanges}
+use Rattle.choice.specs.Figures.{figures}
+use Rattle.choice.specs.Ranges.{holdsMinus1, placed, inRanges, saidInRanges}
 
 record Test : Type 0 where
   case : ℤ
@@ -38,16 +40,16 @@ record Test : Type 0 where
 abbrev test : ℤ → ℤ → Cube → Said → Test
 test k c q s = record { case = k; configuration = c; q = q; says = s }
 
--- a choice with so many unsettled and so many unmatched
-abbrev so : Chosen → ℕ → ℕ → Said
-so x unsettled unmatched = made (reach x (record { unsettled = unsettled; unmatched = unmatched }))
+-- a choice with so many unsettled, unmatched and readings
+abbrev so : Chosen → ℕ → ℕ → ℕ → Said
+so x unsettled unmatched readings = made (reach x (record { unsettled = unsettled; unmatched = unmatched; readings = readings }))
 
--- code, row, column, centre, unsettled and unmatched
-abbrev tile : ℕ → ℕ → ℕ → Bool → ℕ → ℕ → Said
-tile code row column centre unsettled unmatched = so (tiling code row column centre) unsettled unmatched
+-- code, row, column, centre, unsettled, unmatched and readings
+abbrev tile : ℕ → ℕ → ℕ → Bool → ℕ → ℕ → ℕ → Said
+tile code row column centre unsettled unmatched readings = so (tiling code row column centre) unsettled unmatched readings
 
-abbrev tiled : ℕ → ℕ → Cube → ℕ → ℕ → ℕ → Bool → ℕ → ℕ → Test
-tiled k c q code row column centre unsettled unmatched = test (pos k) (pos c) q (tile code row column centre unsettled unmatched)
+abbrev tiled : ℕ → ℕ → Cube → ℕ → ℕ → ℕ → Bool → ℕ → ℕ → ℕ → Test
+tiled k c q code row column centre unsettled unmatched readings = test (pos k) (pos c) q (tile code row column centre unsettled unmatched readings)
 
 -- ---- refusals: all ones, but for the value b at corner k
 abbrev with : ℕ → ℕ → Cube
@@ -84,8 +86,8 @@ refusals =
     ∷ test (pos 0) (negsuc 0) spoilt (refused 3)
     ∷ test (pos 1) (pos 0) (with 0xff800001 3) (refused 3)
     -- and no refusal: case 0, and the last finite values
-    ∷ test (pos 0) (negsuc 0) ones (so empty 0 0)
-    ∷ tiled 14 11 (cube 0x7f7fffff 0xff7fffff 1 0x80000001 0 0x80000000 0x007fffff 0x00800000) 38 11 0 false 0 0
+    ∷ test (pos 0) (negsuc 0) ones (so empty 0 0 0)
+    ∷ tiled 14 11 (cube 0x7f7fffff 0xff7fffff 1 0x80000001 0 0x80000000 0x007fffff 0x00800000) 38 11 0 false 0 0 0
     ∷ []
 
 refusals-hold : map (λ t. answerOf (t .case) (t .configuration) (t .q)) refusals ≡ map (λ t. t .says) refusals
@@ -107,70 +109,70 @@ all-refused = refl
 choices : List Test
 choices =
     -- document 01's third sample line
-    test (pos 13) (pos 0) (cube 0x3f800000 0x40000000 0x3f800000 0x40000000 0x3f800000 0x40800000 0x3f800000 0x40800000) (so (noTiling 0 5) 0 0)
+    test (pos 13) (pos 0) (cube 0x3f800000 0x40000000 0x3f800000 0x40000000 0x3f800000 0x40800000 0x3f800000 0x40800000) (so (noTiling 0 5) 0 0 6)
     -- docs/DIFFERENCES.md, F8
-    ∷ tiled 13 0 (cube 0x40a00000 0xc0400000 0x40000000 0xc0400000 0xc0400000 0x40000000 0xbf800000 0x3f800000) 37 1 0 false 0 0
+    ∷ tiled 13 0 (cube 0x40a00000 0xc0400000 0x40000000 0xc0400000 0xc0400000 0x40000000 0xbf800000 0x3f800000) 37 1 0 false 0 0 7
     -- no tiling of the other configuration
-    ∷ test (pos 13) (pos 1) (cube 0x40000000 0x3f800000 0x40000000 0x3f800000 0x3f800000 0xc0000000 0xbf800000 0xbf800000) (so (noTiling 1 21) 0 0)
+    ∷ test (pos 13) (pos 1) (cube 0x40000000 0x3f800000 0x40000000 0x3f800000 0x3f800000 0xc0000000 0xbf800000 0xbf800000) (so (noTiling 1 21) 0 0 6)
     -- tilings 1 to 38
-    ∷ tiled 1 6 (cube 0xc0000000 0xc0000000 0xc0000000 0xc0000000 0x3f800000 0xc0000000 0xc0000000 0xc0000000) 1 6 0 false 0 0
-    ∷ tiled 2 6 (cube 0xc0000000 0xc0000000 0xc0000000 0xc0000000 0xc0000000 0xc0000000 0xc0000000 0xc0000000) 2 6 0 false 0 0
-    ∷ tiled 3 6 (cube 0xc0000000 0x3f800000 0xc0000000 0xc0000000 0xc0000000 0xc0000000 0xc0000000 0xc0000000) 3 6 0 false 0 0
-    ∷ tiled 3 11 (cube 0xc0000000 0xc0000000 0xc0000000 0xbf800000 0xc0000000 0x40000000 0xc0000000 0x40000000) 4 11 0 false 0 0
-    ∷ tiled 4 7 (cube 0xc0000000 0x40400000 0x40000000 0x40400000 0x40000000 0x40000000 0xbf800000 0x40000000) 5 7 0 false 0 0
-    ∷ tiled 4 0 (cube 0x41100000 0xc0a00000 0x40000000 0x40000000 0xc0a00000 0xc0800000 0x41100000 0) 6 0 0 false 0 0
-    ∷ tiled 5 20 (cube 0xc0000000 0xc0000000 0xc0000000 0xc0000000 0xc0000000 0x40000000 0xc0000000 0xc0000000) 7 20 0 false 0 0
-    ∷ tiled 6 13 (cube 0xc0000000 0x40000000 0xc0000000 0xc0000000 0xc0000000 0xc0000000 0xc0000000 0xc0000000) 8 13 0 false 0 1
-    ∷ tiled 6 45 (cube 0x40000000 0x40000000 0x40000000 0x40000000 0x40000000 0x40000000 0x40000000 0x40000000) 9 45 0 false 1 1
-    ∷ tiled 6 5 (cube 0xc0000000 0xc0000000 0xc0000000 0xc0000000 0xc0000000 0xc0000000 0xc0000000 0xc0000000) 10 5 0 false 0 0
-    ∷ tiled 7 12 (cube 0xc0000000 0xc0000000 0xc0000000 0xc0000000 0xc0000000 0xc0000000 0xbf800000 0xc0000000) 11 12 0 false 0 0
-    ∷ tiled 7 13 (cube 0xc0000000 0xc0000000 0xc0000000 0xc0000000 0xbf800000 0xc0000000 0xc0000000 0xc0000000) 12 13 1 false 0 0
-    ∷ tiled 7 14 (cube 0x40000000 0x40000000 0x3f800000 0x40000000 0x40000000 0x40000000 0x40000000 0x40000000) 13 14 1 true 0 0
-    ∷ tiled 7 1 (cube 0x40000000 0xbf800000 0x40000000 0x40000000 0x40000000 0x40000000 0x40000000 0x40000000) 14 1 0 false 0 3
-    ∷ tiled 7 6 (cube 0xc0000000 0xc0400000 0x40400000 0xbf800000 0xbf800000 0x40000000 0xc0000000 0x40000000) 15 6 0 false 0 0
-    ∷ tiled 8 0 (cube 0xc0000000 0xc0000000 0xc0000000 0xc0000000 0xc0000000 0xc0000000 0xc0000000 0xc0000000) 16 0 0 false 0 0
-    ∷ tiled 9 4 (cube 0xc0000000 0xc0000000 0xc0000000 0xc0000000 0xc0000000 0xbf800000 0xc0000000 0xc0000000) 17 4 0 false 0 0
-    ∷ tiled 10 2 (cube 0x3f800000 0xc0000000 0xc0000000 0x3f800000 0xc0400000 0x40000000 0x40000000 0xc0000000) 18 2 0 false 0 0
-    ∷ tiled 10 3 (cube 0xc0000000 0x3f800000 0x40400000 0xc0000000 0x40400000 0xbf800000 0xbf800000 0x40000000) 19 3 0 false 0 0
-    ∷ tiled 10 2 (cube 0xc0000000 0xc0000000 0xc0000000 0xc0000000 0xc0000000 0xc0000000 0xc0000000 0xc0000000) 20 3 0 false 1 0
-    ∷ tiled 10 5 (cube 0xc0000000 0xc0000000 0xc0000000 0x40000000 0xc0000000 0xc0000000 0xc0000000 0xc0000000) 21 5 0 true 0 0
-    ∷ tiled 10 3 (cube 0x40000000 0x40000000 0x40000000 0x40000000 0x40000000 0 0x40000000 0x40000000) 22 3 0 true 0 0
-    ∷ tiled 11 1 (cube 0xc0000000 0xc0000000 0xc0000000 0xc0000000 0xc0000000 0xc0000000 0xc0000000 0xc0000000) 23 1 0 false 0 0
-    ∷ tiled 12 2 (cube 0x40000000 0x40000000 0xc0000000 0xc0000000 0x40000000 0xc0400000 0x3f800000 0xbf800000) 24 2 0 false 0 0
-    ∷ tiled 12 14 (cube 0xc0000000 0xbf800000 0xc0000000 0xc0000000 0xc0000000 0xc0000000 0xc0000000 0xc0000000) 25 14 0 false 0 0
-    ∷ tiled 12 9 (cube 0xc0000000 0xc0000000 0xc0000000 0xc0000000 0xc0000000 0xc0000000 0xc0000000 0xc0000000) 26 14 0 false 2 0
-    ∷ tiled 12 6 (cube 0x40000000 0xc0400000 0x40400000 0xc0000000 0x40000000 0xc0000000 0xc0000000 0x3f800000) 27 6 0 true 0 0
-    ∷ tiled 12 21 (cube 0xc0400000 0xbf800000 0x40000000 0x40000000 0xc0000000 0x3f800000 0xc0000000 0x40000000) 28 21 0 true 0 0
-    ∷ tiled 13 0 (cube 0x40e00000 0xc1400000 0x3f800000 0xc1400000 0xc1400000 0x40400000 0xc1100000 0x3f800000) 29 0 0 false 0 0
-    ∷ tiled 13 1 (cube 0xc0000000 0x40400000 0xbf800000 0x3f800000 0x40000000 0xc0000000 0x3f800000 0xbf800000) 30 1 0 false 0 0
-    ∷ tiled 13 1 (cube 0xc0000000 0x40000000 0xc0000000 0x40000000 0x3f800000 0xc0000000 0x3f800000 0xc0400000) 31 1 4 false 0 0
-    ∷ tiled 13 0 (cube 0xc0000000 0xc0000000 0xc0000000 0xc0000000 0xbf800000 0xc0000000 0xc0000000 0xc0000000) 32 0 0 false 0 0
-    ∷ tiled 13 0 (cube 0x3f800000 0xc0000000 0x40400000 0xc0000000 0xc0400000 0x3f800000 0xbf800000 0x40000000) 33 0 4 true 0 0
-    ∷ tiled 13 0 (cube 0xc0000000 0xc0000000 0x40000000 0xc0000000 0xc0000000 0xc0000000 0xc0000000 0xc0000000) 34 0 4 true 0 0
-    ∷ tiled 13 0 (cube 0x40000000 0xbf800000 0x40000000 0xc0000000 0xc0400000 0x3f800000 0xc0000000 0x40000000) 35 0 2 true 0 0
-    ∷ tiled 13 0 (cube 0x3f800000 0xc0400000 0x40400000 0xc0400000 0xc0000000 0x40000000 0xc0000000 0x40000000) 36 0 2 false 0 0
-    ∷ tiled 13 0 (cube 0x3f800000 0xc1100000 0x41100000 0xc0e00000 0xc1400000 0x41200000 0xc0e00000 0x41100000) 37 1 2 false 0 0
-    ∷ tiled 14 0 (cube 0xc0000000 0x40000000 0x40000000 0x40000000 0x40000000 0x40000000 0x40000000 0x40000000) 38 0 0 false 0 0
+    ∷ tiled 1 6 (cube 0xc0000000 0xc0000000 0xc0000000 0xc0000000 0x3f800000 0xc0000000 0xc0000000 0xc0000000) 1 6 0 false 0 0 0
+    ∷ tiled 2 6 (cube 0xc0000000 0xc0000000 0xc0000000 0xc0000000 0xc0000000 0xc0000000 0xc0000000 0xc0000000) 2 6 0 false 0 0 0
+    ∷ tiled 3 6 (cube 0xc0000000 0x3f800000 0xc0000000 0xc0000000 0xc0000000 0xc0000000 0xc0000000 0xc0000000) 3 6 0 false 0 0 1
+    ∷ tiled 3 11 (cube 0xc0000000 0xc0000000 0xc0000000 0xbf800000 0xc0000000 0x40000000 0xc0000000 0x40000000) 4 11 0 false 0 0 1
+    ∷ tiled 4 7 (cube 0xc0000000 0x40400000 0x40000000 0x40400000 0x40000000 0x40000000 0xbf800000 0x40000000) 5 7 0 false 0 0 3
+    ∷ tiled 4 0 (cube 0x41100000 0xc0a00000 0x40000000 0x40000000 0xc0a00000 0xc0800000 0x41100000 0) 6 0 0 false 0 0 3
+    ∷ tiled 5 20 (cube 0xc0000000 0xc0000000 0xc0000000 0xc0000000 0xc0000000 0x40000000 0xc0000000 0xc0000000) 7 20 0 false 0 0 0
+    ∷ tiled 6 13 (cube 0xc0000000 0x40000000 0xc0000000 0xc0000000 0xc0000000 0xc0000000 0xc0000000 0xc0000000) 8 13 0 false 0 1 2
+    ∷ tiled 6 45 (cube 0x40000000 0x40000000 0x40000000 0x40000000 0x40000000 0x40000000 0x40000000 0x40000000) 9 45 0 false 1 1 2
+    ∷ tiled 6 5 (cube 0xc0000000 0xc0000000 0xc0000000 0xc0000000 0xc0000000 0xc0000000 0xc0000000 0xc0000000) 10 5 0 false 0 0 1
+    ∷ tiled 7 12 (cube 0xc0000000 0xc0000000 0xc0000000 0xc0000000 0xc0000000 0xc0000000 0xbf800000 0xc0000000) 11 12 0 false 0 0 3
+    ∷ tiled 7 13 (cube 0xc0000000 0xc0000000 0xc0000000 0xc0000000 0xbf800000 0xc0000000 0xc0000000 0xc0000000) 12 13 1 false 0 0 3
+    ∷ tiled 7 14 (cube 0x40000000 0x40000000 0x3f800000 0x40000000 0x40000000 0x40000000 0x40000000 0x40000000) 13 14 1 true 0 0 3
+    ∷ tiled 7 1 (cube 0x40000000 0xbf800000 0x40000000 0x40000000 0x40000000 0x40000000 0x40000000 0x40000000) 14 1 0 false 0 3 6
+    ∷ tiled 7 6 (cube 0xc0000000 0xc0400000 0x40400000 0xbf800000 0xbf800000 0x40000000 0xc0000000 0x40000000) 15 6 0 false 0 0 6
+    ∷ tiled 8 0 (cube 0xc0000000 0xc0000000 0xc0000000 0xc0000000 0xc0000000 0xc0000000 0xc0000000 0xc0000000) 16 0 0 false 0 0 0
+    ∷ tiled 9 4 (cube 0xc0000000 0xc0000000 0xc0000000 0xc0000000 0xc0000000 0xbf800000 0xc0000000 0xc0000000) 17 4 0 false 0 0 0
+    ∷ tiled 10 2 (cube 0x3f800000 0xc0000000 0xc0000000 0x3f800000 0xc0400000 0x40000000 0x40000000 0xc0000000) 18 2 0 false 0 0 3
+    ∷ tiled 10 3 (cube 0xc0000000 0x3f800000 0x40400000 0xc0000000 0x40400000 0xbf800000 0xbf800000 0x40000000) 19 3 0 false 0 0 3
+    ∷ tiled 10 2 (cube 0xc0000000 0xc0000000 0xc0000000 0xc0000000 0xc0000000 0xc0000000 0xc0000000 0xc0000000) 20 3 0 false 1 0 3
+    ∷ tiled 10 5 (cube 0xc0000000 0xc0000000 0xc0000000 0x40000000 0xc0000000 0xc0000000 0xc0000000 0xc0000000) 21 5 0 true 0 0 2
+    ∷ tiled 10 3 (cube 0x40000000 0x40000000 0x40000000 0x40000000 0x40000000 0 0x40000000 0x40000000) 22 3 0 true 0 0 2
+    ∷ tiled 11 1 (cube 0xc0000000 0xc0000000 0xc0000000 0xc0000000 0xc0000000 0xc0000000 0xc0000000 0xc0000000) 23 1 0 false 0 0 0
+    ∷ tiled 12 2 (cube 0x40000000 0x40000000 0xc0000000 0xc0000000 0x40000000 0xc0400000 0x3f800000 0xbf800000) 24 2 0 false 0 0 4
+    ∷ tiled 12 14 (cube 0xc0000000 0xbf800000 0xc0000000 0xc0000000 0xc0000000 0xc0000000 0xc0000000 0xc0000000) 25 14 0 false 0 0 4
+    ∷ tiled 12 9 (cube 0xc0000000 0xc0000000 0xc0000000 0xc0000000 0xc0000000 0xc0000000 0xc0000000 0xc0000000) 26 14 0 false 2 0 4
+    ∷ tiled 12 6 (cube 0x40000000 0xc0400000 0x40400000 0xc0000000 0x40000000 0xc0000000 0xc0000000 0x3f800000) 27 6 0 true 0 0 2
+    ∷ tiled 12 21 (cube 0xc0400000 0xbf800000 0x40000000 0x40000000 0xc0000000 0x3f800000 0xc0000000 0x40000000) 28 21 0 true 0 0 2
+    ∷ tiled 13 0 (cube 0x40e00000 0xc1400000 0x3f800000 0xc1400000 0xc1400000 0x40400000 0xc1100000 0x3f800000) 29 0 0 false 0 0 6
+    ∷ tiled 13 1 (cube 0xc0000000 0x40400000 0xbf800000 0x3f800000 0x40000000 0xc0000000 0x3f800000 0xbf800000) 30 1 0 false 0 0 6
+    ∷ tiled 13 1 (cube 0xc0000000 0x40000000 0xc0000000 0x40000000 0x3f800000 0xc0000000 0x3f800000 0xc0400000) 31 1 4 false 0 0 6
+    ∷ tiled 13 0 (cube 0xc0000000 0xc0000000 0xc0000000 0xc0000000 0xbf800000 0xc0000000 0xc0000000 0xc0000000) 32 0 0 false 0 0 6
+    ∷ tiled 13 0 (cube 0x3f800000 0xc0000000 0x40400000 0xc0000000 0xc0400000 0x3f800000 0xbf800000 0x40000000) 33 0 4 true 0 0 6
+    ∷ tiled 13 0 (cube 0xc0000000 0xc0000000 0x40000000 0xc0000000 0xc0000000 0xc0000000 0xc0000000 0xc0000000) 34 0 4 true 0 0 6
+    ∷ tiled 13 0 (cube 0x40000000 0xbf800000 0x40000000 0xc0000000 0xc0400000 0x3f800000 0xc0000000 0x40000000) 35 0 2 true 0 0 6
+    ∷ tiled 13 0 (cube 0x3f800000 0xc0400000 0x40400000 0xc0400000 0xc0000000 0x40000000 0xc0000000 0x40000000) 36 0 2 false 0 0 7
+    ∷ tiled 13 0 (cube 0x3f800000 0xc1100000 0x41100000 0xc0e00000 0xc1400000 0x41200000 0xc0e00000 0x41100000) 37 1 2 false 0 0 7
+    ∷ tiled 14 0 (cube 0xc0000000 0x40000000 0x40000000 0x40000000 0x40000000 0x40000000 0x40000000 0x40000000) 38 0 0 false 0 0 0
     -- unsettled by products of zero
-    ∷ tiled 4 3 (cube 0x40000000 0 0x40000000 0x40000000 0x3f800000 0x80000000 0x3f800000 0) 5 3 0 false 2 0
-    ∷ tiled 4 7 (cube 0x80000000 0xbf800000 0xc0000000 0x3f800000 0x40000000 0xc0000000 0xc0000000 0x40000000) 6 7 0 false 3 3
-    ∷ tiled 6 16 (cube 0x80000000 0 0xc0000000 0x40000000 0xbf800000 0x3f800000 0x3f800000 0xc0000000) 9 16 0 false 1 0
-    ∷ tiled 7 7 (cube 0xbf800001 0xb4000000 0xbf800000 0x3f800000 0x34000001 0xbf800000 0x3f7fffff 0xb3ffffff) 14 7 0 false 2 0
-    ∷ tiled 7 6 (cube 0xbf800000 0xbf800000 0x3f800000 0xc0400000 0xc0000000 0x40000000 0xbf800000 0x40400000) 15 6 0 false 3 0
-    ∷ tiled 10 0 (cube 0x3f800000 0xbf800000 0 0x80000000 0x80000000 0 0x3f800000 0xbf800000) 20 5 0 false 1 0
-    ∷ tiled 12 17 (cube 0xdea23992 0x5ea39ea3 0xdeb69bb8 0x5cc355d0 0xbf0eef7a 0x3db25df0 0x3eac2bb6 0xbf514953) 24 17 0 false 1 0
-    ∷ tiled 12 14 (cube 0xc0000000 0 0xc0000000 0 0x40000000 0xbf800000 0x40000000 0x80000000) 26 9 0 false 2 2
+    ∷ tiled 4 3 (cube 0x40000000 0 0x40000000 0x40000000 0x3f800000 0x80000000 0x3f800000 0) 5 3 0 false 2 0 3
+    ∷ tiled 4 7 (cube 0x80000000 0xbf800000 0xc0000000 0x3f800000 0x40000000 0xc0000000 0xc0000000 0x40000000) 6 7 0 false 3 3 3
+    ∷ tiled 6 16 (cube 0x80000000 0 0xc0000000 0x40000000 0xbf800000 0x3f800000 0x3f800000 0xc0000000) 9 16 0 false 1 0 2
+    ∷ tiled 7 7 (cube 0xbf800001 0xb4000000 0xbf800000 0x3f800000 0x34000001 0xbf800000 0x3f7fffff 0xb3ffffff) 14 7 0 false 2 0 6
+    ∷ tiled 7 6 (cube 0xbf800000 0xbf800000 0x3f800000 0xc0400000 0xc0000000 0x40000000 0xbf800000 0x40400000) 15 6 0 false 3 0 6
+    ∷ tiled 10 0 (cube 0x3f800000 0xbf800000 0 0x80000000 0x80000000 0 0x3f800000 0xbf800000) 20 5 0 false 1 0 3
+    ∷ tiled 12 17 (cube 0xdea23992 0x5ea39ea3 0xdeb69bb8 0x5cc355d0 0xbf0eef7a 0x3db25df0 0x3eac2bb6 0xbf514953) 24 17 0 false 1 0 4
+    ∷ tiled 12 14 (cube 0xc0000000 0 0xc0000000 0 0x40000000 0xbf800000 0x40000000 0x80000000) 26 9 0 false 2 2 4
     -- by blank readings: one, two, and beside a product of zero
-    ∷ tiled 4 3 (cube 0x40000000 0x40000000 0x40400000 0x40400000 0x40400000 0x3f800000 0xbf800000 0x40000000) 5 3 0 false 1 0
-    ∷ tiled 7 3 (cube 0x8883425f 0x7f73f798 0x98397f91 0x72e4cf9d 0x1f5cb5da 0x8fbd0a67 0x9449c0b6 0x942dedad) 14 3 0 false 1 0
-    ∷ tiled 12 2 (cube 0 0 0xbf800000 0xbf800000 0xbf800000 0xbf800000 0 0xbf800000) 25 2 0 false 1 0
-    ∷ tiled 4 5 (cube 0 0x7f7fffff 0xbf800000 0x5f000000 0xdf000000 0x5f800000 0x5f800000 0) 5 5 0 false 2 0
-    ∷ tiled 12 14 (cube 0xc0000000 0xc0000000 0 0xc0000000 0xc0000000 0xc0000000 0x40000000 0) 26 9 0 false 2 0
-    ∷ tiled 7 3 (cube 0xbf800000 0x80000000 0 0x3f800000 0 0x3f800000 0xbf800000 0) 15 3 0 false 3 0
+    ∷ tiled 4 3 (cube 0x40000000 0x40000000 0x40400000 0x40400000 0x40400000 0x3f800000 0xbf800000 0x40000000) 5 3 0 false 1 0 3
+    ∷ tiled 7 3 (cube 0x8883425f 0x7f73f798 0x98397f91 0x72e4cf9d 0x1f5cb5da 0x8fbd0a67 0x9449c0b6 0x942dedad) 14 3 0 false 1 0 6
+    ∷ tiled 12 2 (cube 0 0 0xbf800000 0xbf800000 0xbf800000 0xbf800000 0 0xbf800000) 25 2 0 false 1 0 4
+    ∷ tiled 4 5 (cube 0 0x7f7fffff 0xbf800000 0x5f000000 0xdf000000 0x5f800000 0x5f800000 0) 5 5 0 false 2 0 3
+    ∷ tiled 12 14 (cube 0xc0000000 0xc0000000 0 0xc0000000 0xc0000000 0xc0000000 0x40000000 0) 26 9 0 false 2 0 4
+    ∷ tiled 7 3 (cube 0xbf800000 0x80000000 0 0x3f800000 0 0x3f800000 0xbf800000 0) 15 3 0 false 3 0 6
     -- no pick has a match, and each reading is settled; edge 0 by a match
-    ∷ tiled 4 0 (cube 0xbf800000 0xc0000000 0x3f800000 0xc0000000 0xc0000000 0x3f800000 0xbf800000 0xbf800000) 6 0 0 false 0 3
-    ∷ tiled 10 1 (cube 0xbf800000 0x40000000 0x3f800000 0x3f800000 0xbf800000 0x3f800000 0x40000000 0xbf800000) 19 1 0 false 0 1
-    ∷ tiled 4 0 (cube 0xbf800000 0x3f800000 0xbf800000 0xbf800000 0xbf800000 0xbf800000 0xbf800000 0x3f800000) 5 0 0 false 0 0
+    ∷ tiled 4 0 (cube 0xbf800000 0xc0000000 0x3f800000 0xc0000000 0xc0000000 0x3f800000 0xbf800000 0xbf800000) 6 0 0 false 0 3 3
+    ∷ tiled 10 1 (cube 0xbf800000 0x40000000 0x3f800000 0x3f800000 0xbf800000 0x3f800000 0x40000000 0xbf800000) 19 1 0 false 0 1 3
+    ∷ tiled 4 0 (cube 0xbf800000 0x3f800000 0xbf800000 0xbf800000 0xbf800000 0xbf800000 0xbf800000 0x3f800000) 5 0 0 false 0 0 3
     ∷ []
 
 choices-hold : map (λ t. answerOf (t .case) (t .configuration) (t .q)) choices ≡ map (λ t. t .says) choices
@@ -194,28 +196,31 @@ past k s = record { case = k; says = s }
 
 pasts : List Past
 pasts =
-    past 4 (tile 4 0 0 false 0 0)
-    ∷ past 4 (tile 7 0 0 false 0 0)
-    ∷ past 4 (tile 6 8 0 false 0 0)
-    ∷ past 4 (tile 6 0 1 false 0 0)
-    ∷ past 7 (tile 12 0 3 false 0 0)
-    ∷ past 13 (tile 31 0 6 false 0 0)
-    ∷ past 13 (tile 33 0 12 true 0 0)
-    ∷ past 13 (tile 35 0 4 true 0 0)
-    ∷ past 4 (tile 6 0 0 true 0 0)
-    ∷ past 7 (tile 13 0 0 false 0 0)
-    ∷ past 0 (tile 38 0 0 false 0 0)
-    ∷ past 1 (so empty 0 0)
-    ∷ past 0 (so empty 1 0)
-    ∷ past 0 (so empty 0 1)
-    ∷ past 12 (so (noTiling 0 5) 0 0)
-    ∷ past 13 (so (noTiling 2 5) 0 0)
-    ∷ past 13 (so (noTiling 0 5) 1 0)
-    ∷ past 13 (so (noTiling 0 5) 0 1)
+    past 4 (tile 4 0 0 false 0 0 3)
+    ∷ past 4 (tile 7 0 0 false 0 0 3)
+    ∷ past 4 (tile 6 8 0 false 0 0 3)
+    ∷ past 4 (tile 6 0 1 false 0 0 3)
+    ∷ past 7 (tile 12 0 3 false 0 0 3)
+    ∷ past 13 (tile 31 0 6 false 0 0 6)
+    ∷ past 13 (tile 33 0 12 true 0 0 6)
+    ∷ past 13 (tile 35 0 4 true 0 0 6)
+    ∷ past 4 (tile 6 0 0 true 0 0 3)
+    ∷ past 7 (tile 13 0 0 false 0 0 3)
+    ∷ past 0 (tile 38 0 0 false 0 0 0)
+    ∷ past 1 (so empty 0 0 0)
+    ∷ past 0 (so empty 1 0 0)
+    ∷ past 0 (so empty 0 1 0)
+    ∷ past 0 (so empty 0 0 1)
+    ∷ past 12 (so (noTiling 0 5) 0 0 6)
+    ∷ past 13 (so (noTiling 2 5) 0 0 6)
+    ∷ past 13 (so (noTiling 0 5) 1 0 6)
+    ∷ past 13 (so (noTiling 0 5) 0 1 6)
+    ∷ past 13 (so (noTiling 0 5) 0 0 5)
+    ∷ past 13 (so (noTiling 0 5) 0 0 7)
     -- SUB_CONFIG_13 holds 3, 45 and nothing
-    ∷ past 13 (so (noTiling 0 4) 0 0)
-    ∷ past 13 (so (noTiling 1 63) 0 0)
-    ∷ past 13 (so (noTiling 0 64) 0 0)
+    ∷ past 13 (so (noTiling 0 4) 0 0 6)
+    ∷ past 13 (so (noTiling 1 63) 0 0 6)
+    ∷ past 13 (so (noTiling 0 64) 0 0 6)
     ∷ past 1 (refused 0)
     ∷ past 1 (refused 4)
     ∷ past 1 (refused 8)
@@ -224,46 +229,53 @@ pasts =
     ∷ []
 
 pasts-hold : map (λ p. saidInRanges (p .case) (p .says)) pasts ≡ map (λ p. false) pasts
-unfolding pasts saidInRanges inRanges placed readings holdsMinus1 «SUB_CONFIG_13» configurations tilingsOf columnsOf hasCentre
+unfolding pasts saidInRanges inRanges placed figures holdsMinus1 «SUB_CONFIG_13» configurations tilingsOf columnsOf hasCentre
 pasts-hold = refl
 
--- for each case a tiling of it, and how many edge readings a choice makes at most: so many are unsettled or unmatched, and no more
-record Most : Type 0 where
+-- for each case a tiling of it, how many edge readings a choice makes at most, so that so many are unsettled or unmatched and no more, and how many readings
+-- it makes in all, by document 02, Change 7, and the Rust's calls
+record Read : Type 0 where
   case : ℕ
   code : ℕ
-  readings : ℕ
+  edges : ℕ
+  readings : List ℕ
 
-abbrev most : ℕ → ℕ → ℕ → Most
-most k code n = record { case = k; code = code; readings = n }
+abbrev reads : ℕ → ℕ → ℕ → List ℕ → Read
+reads k code n ns = record { case = k; code = code; edges = n; readings = ns }
 
-mosts : List Most
-mosts =
-    most 1 1 0
-    ∷ most 2 2 0
-    ∷ most 3 3 0
-    ∷ most 4 6 3
-    ∷ most 5 7 0
-    ∷ most 6 8 1
-    ∷ most 7 15 3
-    ∷ most 8 16 0
-    ∷ most 9 17 0
-    ∷ most 10 20 1
-    ∷ most 11 23 0
-    ∷ most 12 26 2
-    ∷ most 13 29 0
-    ∷ most 14 38 0
+figures-of : List Read
+figures-of =
+    reads 1 1 0 (0 ∷ [])
+    ∷ reads 2 2 0 (0 ∷ [])
+    ∷ reads 3 3 0 (1 ∷ [])
+    ∷ reads 4 6 3 (3 ∷ [])
+    ∷ reads 5 7 0 (0 ∷ [])
+    ∷ reads 6 8 1 (1 ∷ 2 ∷ [])
+    ∷ reads 7 15 3 (3 ∷ 6 ∷ [])
+    ∷ reads 8 16 0 (0 ∷ [])
+    ∷ reads 9 17 0 (0 ∷ [])
+    ∷ reads 10 20 1 (2 ∷ 3 ∷ [])
+    ∷ reads 11 23 0 (0 ∷ [])
+    ∷ reads 12 26 2 (2 ∷ 4 ∷ [])
+    ∷ reads 13 29 0 (6 ∷ 7 ∷ [])
+    ∷ reads 14 38 0 (0 ∷ [])
     ∷ []
 
-mosts-hold : map (λ m. saidInRanges (m .case) (tile (m .code) 0 0 false (m .readings) (m .readings))) mosts ≡ map (λ m. true) mosts
-unfolding mosts saidInRanges inRanges placed readings configurations tilingsOf columnsOf hasCentre
-mosts-hold = refl
+-- of 0 to 9 readings those that the ranges allow, with so many unsettled and unmatched
+abbrev allowed : Read → ℕ → ℕ → List ℕ
+allowed t unsettled unmatched =
+    foldr (λ n ns. cond (saidInRanges (t .case) (tile (t .code) 0 0 false unsettled unmatched n)) (n ∷ ns) ns) [] (0 ∷ 1 ∷ 2 ∷ 3 ∷ 4 ∷ 5 ∷ 6 ∷ 7 ∷ 8 ∷ 9 ∷ [])
 
-more-unsettled : map (λ m. saidInRanges (m .case) (tile (m .code) 0 0 false (suc (m .readings)) 0)) mosts ≡ map (λ m. false) mosts
-unfolding mosts saidInRanges inRanges placed readings configurations tilingsOf columnsOf hasCentre
+figures-hold : map (λ t. allowed t (t .edges) (t .edges)) figures-of ≡ map (λ t. t .readings) figures-of
+unfolding figures-of saidInRanges inRanges placed figures configurations tilingsOf columnsOf hasCentre
+figures-hold = refl
+
+more-unsettled : map (λ t. allowed t (suc (t .edges)) 0) figures-of ≡ map (λ t. []) figures-of
+unfolding figures-of saidInRanges inRanges placed figures configurations tilingsOf columnsOf hasCentre
 more-unsettled = refl
 
-more-unmatched : map (λ m. saidInRanges (m .case) (tile (m .code) 0 0 false 0 (suc (m .readings)))) mosts ≡ map (λ m. false) mosts
-unfolding mosts saidInRanges inRanges placed readings configurations tilingsOf columnsOf hasCentre
+more-unmatched : map (λ t. allowed t 0 (suc (t .edges))) figures-of ≡ map (λ t. []) figures-of
+unfolding figures-of saidInRanges inRanges placed figures configurations tilingsOf columnsOf hasCentre
 more-unmatched = refl
 
 -- ---- inner numbers: questions that no plan of a case may hand on

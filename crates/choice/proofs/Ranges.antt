@@ -3,8 +3,8 @@
 use mathlib.Core.Path.{_≡_, refl, subst, sym}
 use mathlib.Core.Bool.{Bool, true, false, cond, _&&_}
 use mathlib.Core.List.{List, [], _∷_, map, foldr}
-use Prim.Native.Nat.{ℕ, zero, suc, _+_, _≤_, _<_}
-use native.Mathlib.Nat.{suc-ne-zero}
+use Prim.Native.Nat.{ℕ, zero, suc, _≤_, _<_}
+use native.Mathlib.Nat.{suc-ne-zero, le-trans}
 use native.Mathlib.Omega.{arith}
 use lib.Dec.{T, leb, ltb, eqb, eqb→eq, leb→le, ltb→lt, le→leb, lit≤}
 use lib.IntN.{ℤ, pos, negsuc}
@@ -14,12 +14,13 @@ use Rattle.cube.specs.declared.Cube.{Cube}
 use Rattle.cube.specs.Corners.{allFinite}
 use Rattle.cube.proofs.Table.{allUnder, under}
 use Rattle.notes.specs.declared.Notes.{Notes}
-use Rattle.notes.specs.Notes.{noNotes, added}
+use Rattle.notes.specs.Notes.{noNotes, testsOf, added}
+use Rattle.notes.proofs.Bounds.{AtMost, looksOf, at-most-added}
 use Rattle.interior.specs.declared.Sight.{Sight}
 use Rattle.interior.specs.Pick.{areAmbiguousFaces}
-use Rattle.interior.proofs.Bounds.{Few, inside-bound}
-use Rattle.tilings.specs.Tilings.{configurations, tilingsOf, columnsOf, hasCentre}
-use Rattle.tilings.specs.Plan.{Plan, nothing, untiled, tile, ask, face, inside, inside13, askInTurn, Answers, Chosen, empty, noTiling, tiling, Reached, reach, settled, run}
+use Rattle.interior.proofs.Bounds.{inside-bound}
+use Rattle.tilings.specs.Tilings.{configurations, tilingsOf, isOneOf, columnsOf, hasCentre}
+use Rattle.tilings.specs.Plan.{Plan, nothing, untiled, tile, ask, face, inside, inside13, askInTurn, Answers, Chosen, empty, noTiling, tiling, Reached, reach, settled, tested, run}
 use Rattle.tilings.specs.Answers.{answersOf}
 use Rattle.two_faces.specs.Tables.{«TEST_10», «TEST_12»}
 use Rattle.two_faces.specs.Plans.{twoFaces, plan10, plan12}
@@ -30,68 +31,82 @@ use Rattle.families.specs.Plans.{plan3, plan4, plan6, part7, plan7, plans, plan
 use Rattle.families.proofs.Families.{of-a-case}
 use Rattle.choice.specs.Choice.{isCase, isConfiguration, natOf, refusalOf, choiceOf, made, refused, answerOf}
 use Rattle.choice.specs.Inner.{handsOn}
-use Rattle.choice.specs.Ranges.{readings, holdsMinus1, placed, within, inRanges, saidInRanges}
+use Rattle.choice.specs.Figures.{Figures, figure, figures, figuresOf, figuresFor, within}
+use Rattle.choice.specs.Ranges.{holdsMinus1, placed, inRanges, saidInRanges}
 
 -- ---- what a plan leads to
-abbrev counts : ℕ → Notes
-counts n = record { unsettled = n; unmatched = n }
+-- with `used` counted at most, whatever the answers: what the plan leads to is in the ranges
+unfoldable fits : ℕ → Notes → Plan → Bool
+fits case used nothing = inRanges case (reach empty used)
+fits case used (untiled c sub) = inRanges case (reach (noTiling c sub) used)
+fits case used (tile code row column) = inRanges case (reach (tiling code row column (hasCentre code)) used)
+fits case used (ask (face n) p r) = fits case (tested used) p && fits case (tested used) r
+fits case used (ask (inside ns s) p r) = fits case (added used (looksOf (length ns))) p && fits case (added used (looksOf (length ns))) r
+fits case used (ask inside13 p r) = fits case (tested used) p && fits case (tested used) r
 
--- with `used` edge readings made, whatever the answers: what the plan leads to is in the ranges
-unfoldable fits : ℕ → ℕ → Plan → Bool
-fits case used nothing = inRanges case (reach empty (counts used))
-fits case used (untiled c sub) = inRanges case (reach (noTiling c sub) (counts used))
-fits case used (tile code row column) = inRanges case (reach (tiling code row column (hasCentre code)) (counts used))
-fits case used (ask (face n) p r) = fits case used p && fits case used r
-fits case used (ask (inside ns s) p r) = fits case (used + length ns) p && fits case (used + length ns) r
-fits case used (ask inside13 p r) = fits case used p && fits case used r
+lower : (k n l : ℕ) → k ≤ n → T (leb n l) → T (leb k l)
+lower k n l h t = le→leb k l (le-trans h (leb→le n l t))
 
-fewer : (n used : ℕ) (m : Notes) → Few m used → T (within n (counts used)) → T (within n m)
-fewer n used m (h, i) t =
-    let l : used ≤ n = leb→le used n (and-l (leb used n) (leb used n) t) in
-    and-i (leb (m .unsettled) n) (leb (m .unmatched) n) (le→leb (m .unsettled) n (omega arith)) (le→leb (m .unmatched) n (omega arith))
+fewer : (f : Figures) (used m : Notes) → AtMost m used → T (within f used) → T (within f m)
+fewer f used m (h, (i, e)) t =
+    let one = leb (used .unsettled) (f .edges) in
+    let other = leb (used .unmatched) (f .edges) in
+    let read : ℕ → Bool = λ n. isOneOf n (f .least ∷ f .most ∷ []) in
+    let few = and-l (one && other) (read (used .readings)) t in
+    and-i (leb (m .unsettled) (f .edges) && leb (m .unmatched) (f .edges)) (read (m .readings))
+    (and-i (leb (m .unsettled) (f .edges)) (leb (m .unmatched) (f .edges))
+    (lower (m .unsettled) (used .unsettled) (f .edges) h (and-l one other few))
+    (lower (m .unmatched) (used .unmatched) (f .edges) i (and-r one other few)))
+    (subst (λ (n : ℕ). T (read n)) (sym e) (and-r (one && other) (read (used .readings)) t))
 
-reached-in : (case used : ℕ) (x : Chosen) (m : Notes) → Few m used → T (inRanges case (reach x (counts used))) → T (inRanges case (reach x m))
+reached-in : (case : ℕ) (used : Notes) (x : Chosen) (m : Notes) → AtMost m used → T (inRanges case (reach x used)) → T (inRanges case (reach x m))
 unfolding inRanges
 reached-in case used x m h t =
-    let n = getD readings case 0 in
-    and-i (placed case x) (within n m) (and-l (placed case x) (within n (counts used)) t) (fewer n used m h (and-r (placed case x) (within n (counts used)) t))
+    let f = figuresFor case x in
+    and-i (placed case x) (within f m) (and-l (placed case x) (within f used) t) (fewer f used m h (and-r (placed case x) (within f used) t))
 
-either : (case : ℕ) (b : Bool) (x y : Reached) → T (inRanges case x) → T (inRanges case y) → T (inRanges case (cond b x y))
-either case true x y h l = h
-either case false x y h l = l
+-- what holds of both ways holds of the one that is gone
+pub either : (P : Reached → Type 0) (b : Bool) (x y : Reached) → P x → P y → P (cond b x y)
+either P true x y h l = h
+either P false x y h l = l
 
-few-added : (m l : Notes) (used n : ℕ) → Few m used → Few l n → Few (added m l) (used + n)
-few-added m l used n (h, i) (j, k) = (omega arith, omega arith)
+abbrev InRanges : ℕ → Reached → Type 0
+InRanges case r = T (inRanges case r)
 
-inside-in : (case n used : ℕ) (f g : Notes → Reached) (m : Notes) (l : Sight) → Few m used → Few (l .notes) n
-    → ((k : Notes) → Few k (used + n) → T (inRanges case (f k)))
-    → ((k : Notes) → Few k (used + n) → T (inRanges case (g k)))
-    → T (inRanges case (settled l f g m))
+one-test : (m used : Notes) → AtMost m used → AtMost (tested m) (tested used)
+one-test m used h = at-most-added m (testsOf 1) used (testsOf 1) h (lit≤ tt, (lit≤ tt, refl))
+
+inside-in : (case : ℕ) (used n : Notes) (f g : Notes → Reached) (m : Notes) (l : Sight) → AtMost m used → AtMost (l .notes) n
+    → ((k : Notes) → AtMost k (added used n) → InRanges case (f k))
+    → ((k : Notes) → AtMost k (added used n) → InRanges case (g k))
+    → InRanges case (settled l f g m)
 unfolding settled
-inside-in case n used f g m l h c p r =
+inside-in case used n f g m l h c p r =
     let k = added m (l .notes) in
-    let few = few-added m (l .notes) used n h c in
-    either case (l .hit) (f k) (g k) (p k few) (r k few)
+    let few = at-most-added m (l .notes) used n h c in
+    either (InRanges case) (l .hit) (f k) (g k) (p k few) (r k few)
 
-module _ (case : ℕ) (w : Answers) (few : (ns : List ℕ) (s : ℤ) → Few (w .insides ns s .notes) (length ns)) where
-  run-in : (used : ℕ) (p : Plan) (m : Notes) → Few m used → T (fits case used p) → T (inRanges case (run w p m))
+module _ (case : ℕ) (w : Answers) (few : (ns : List ℕ) (s : ℤ) → AtMost (w .insides ns s .notes) (looksOf (length ns))) where
+  run-in : (used : Notes) (p : Plan) (m : Notes) → AtMost m used → T (fits case used p) → InRanges case (run w p m)
   unfolding fits run
   run-in used nothing m h t = reached-in case used empty m h t
   run-in used (untiled c sub) m h t = reached-in case used (noTiling c sub) m h t
   run-in used (tile code row column) m h t = reached-in case used (tiling code row column (hasCentre code)) m h t
   run-in used (ask (face n) p r) m h t =
-      either case (w .faces n) (run w p m) (run w r m)
-      (run-in used p m h (and-l (fits case used p) (fits case used r) t))
-      (run-in used r m h (and-r (fits case used p) (fits case used r) t))
+      let k = tested used in
+      either (InRanges case) (w .faces n) (run w p (tested m)) (run w r (tested m))
+      (run-in k p (tested m) (one-test m used h) (and-l (fits case k p) (fits case k r) t))
+      (run-in k r (tested m) (one-test m used h) (and-r (fits case k p) (fits case k r) t))
   run-in used (ask (inside ns s) p r) m h t =
-      let more = used + length ns in
-      inside-in case (length ns) used (run w p) (run w r) m (w .insides ns s) h (few ns s)
+      let more = added used (looksOf (length ns)) in
+      inside-in case used (looksOf (length ns)) (run w p) (run w r) m (w .insides ns s) h (few ns s)
       (λ k i. run-in more p k i (and-l (fits case more p) (fits case more r) t))
       (λ k i. run-in more r k i (and-r (fits case more p) (fits case more r) t))
   run-in used (ask inside13 p r) m h t =
-      either case (w .insides13) (run w p m) (run w r m)
-      (run-in used p m h (and-l (fits case used p) (fits case used r) t))
-      (run-in used r m h (and-r (fits case used p) (fits case used r) t))
+      let k = tested used in
+      either (InRanges case) (w .insides13) (run w p (tested m)) (run w r (tested m))
+      (run-in k p (tested m) (one-test m used h) (and-l (fits case k p) (fits case k r) t))
+      (run-in k r (tested m) (one-test m used h) (and-r (fits case k p) (fits case k r) t))
 
 -- ---- how many interior tests it makes, whatever the answers: none, or one at most, for n ambiguous faces
 unfoldable pub asksNone : Plan → Bool
@@ -112,23 +127,23 @@ asksOnce n (ask inside13 p r) = asksOnce n p && asksOnce n r
 
 -- ---- all plans
 abbrev asks : ℕ → Plan → Bool
-asks case p = handsOn case p && asksOnce (getD readings case 0) p
+asks case p = handsOn case p && asksOnce (figuresOf case .edges) p
 
 abbrev fitsIn : ℕ → Plan → Bool
-fitsIn case p = fits case 0 p && asks case p
+fitsIn case p = fits case noNotes p && asks case p
 
 fitsAt : ℕ → ℕ → Bool
 fitsAt case c = fitsIn case (planOf case c)
 
 all-fit : T (allUnder 15 (λ case. allUnder (getD configurations case 0) (fitsAt case)))
-unfolding fitsAt fits handsOn asksNone asksOnce inRanges placed readings holdsMinus1 tilingsOf configurations columnsOf hasCentre planOf plans plan3 plan4 plan6 part7 plan7 twoFaces plan10 plan12 parts13 lastFrom tile13 part13 plan13 askInTurn «TEST_3» «TEST_4» «TEST_6» «TEST_7» «TEST_10» «TEST_12» «TEST_13» «SUB_CONFIG_13»
+unfolding fitsAt fits handsOn asksNone asksOnce inRanges placed figures holdsMinus1 tilingsOf configurations columnsOf hasCentre planOf plans plan3 plan4 plan6 part7 plan7 twoFaces plan10 plan12 parts13 lastFrom tile13 part13 plan13 askInTurn «TEST_3» «TEST_4» «TEST_6» «TEST_7» «TEST_10» «TEST_12» «TEST_13» «SUB_CONFIG_13»
 all-fit = tt
 
 plan-fits : (case c : ℕ) → c < getD configurations case 0 → T (fitsAt case c)
 plan-fits case c l = under (getD configurations case 0) (fitsAt case) (under 15 (λ k. allUnder (getD configurations k 0) (fitsAt k)) all-fit case (of-a-case l)) c l
 
 nothing-fits : (case : ℕ) → T (eqb case 0) → T (fitsAt case 0)
-unfolding fitsAt planOf plans fits handsOn asksOnce inRanges placed readings
+unfolding fitsAt planOf plans fits handsOn asksOnce inRanges placed figures
 nothing-fits case e = subst (λ (k : ℕ). T (fitsAt k 0)) (sym (eqb→eq case 0 e)) tt
 
 -- ---- past refusals 1, 2 and 3
@@ -153,17 +168,17 @@ module _ (x y : ℤ) (q : Cube) (e : refusalOf x y q ≡ 0) where
 
   asked-so : T (asks (natOf x) plan)
   unfolding fitsAt
-  asked-so = and-r (fits (natOf x) 0 plan) (asks (natOf x) plan) (fits-past x y q e)
+  asked-so = and-r (fits (natOf x) noNotes plan) (asks (natOf x) plan) (fits-past x y q e)
 
   pub hands-on : T (handsOn (natOf x) plan)
-  hands-on = and-l (handsOn (natOf x) plan) (asksOnce (getD readings (natOf x) 0) plan) asked-so
+  hands-on = and-l (handsOn (natOf x) plan) (asksOnce (figuresOf (natOf x) .edges) plan) asked-so
 
-  pub asks-once : T (asksOnce (getD readings (natOf x) 0) plan)
-  asks-once = and-r (handsOn (natOf x) plan) (asksOnce (getD readings (natOf x) 0) plan) asked-so
+  pub asks-once : T (asksOnce (figuresOf (natOf x) .edges) plan)
+  asks-once = and-r (handsOn (natOf x) plan) (asksOnce (figuresOf (natOf x) .edges) plan) asked-so
 
   pub choice-in : T (inRanges (natOf x) (choiceOf x y q))
   unfolding fitsAt choiceOf
-  choice-in = run-in (natOf x) (answersOf q) (inside-bound q) 0 plan noNotes (lit≤ tt, lit≤ tt) (and-l (fits (natOf x) 0 plan) (asks (natOf x) plan) (fits-past x y q e))
+  choice-in = run-in (natOf x) (answersOf q) (inside-bound q) noNotes plan noNotes (lit≤ tt, (lit≤ tt, refl)) (and-l (fits (natOf x) noNotes plan) (asks (natOf x) plan) (fits-past x y q e))
 
 -- ---- or refused
 said-in : (case : ℕ) (a b d : Bool) (r : Reached)
@@ -180,19 +195,25 @@ unfolding answerOf refusalOf
 ranges x y q = said-in (natOf x) (isCase x) (isConfiguration (natOf x) y) (allFinite q) (choiceOf x y q) (choice-in x y q)
 
 -- ---- unsettled, whatever the case
-all-few : (ns : List ℕ) (k : ℕ) → T (foldr _&&_ true (map (λ n. leb n 3) ns)) → getD ns k 0 ≤ 3
-all-few [] k h = lit≤ tt
-all-few (n ∷ ns) zero h = leb→le n 3 (and-l (leb n 3) (foldr _&&_ true (map (λ i. leb i 3) ns)) h)
-all-few (n ∷ ns) (suc k) h = all-few ns k (and-r (leb n 3) (foldr _&&_ true (map (λ i. leb i 3) ns)) h)
+abbrev fewEdges : Figures → Bool
+fewEdges f = leb (f .edges) 3
 
-few-readings : (case : ℕ) → getD readings case 0 ≤ 3
-unfolding readings
-few-readings case = all-few readings case tt
+all-few : (fs : List Figures) (k : ℕ) → T (foldr _&&_ true (map fewEdges fs)) → getD fs k (figure 0 0 0) .edges ≤ 3
+all-few [] k h = lit≤ tt
+all-few (f ∷ fs) zero h = leb→le (f .edges) 3 (and-l (fewEdges f) (foldr _&&_ true (map fewEdges fs)) h)
+all-few (f ∷ fs) (suc k) h = all-few fs k (and-r (fewEdges f) (foldr _&&_ true (map fewEdges fs)) h)
+
+few-edges : (case : ℕ) (x : Chosen) → figuresFor case x .edges ≤ 3
+unfolding figures
+few-edges case empty = lit≤ tt
+few-edges case (noTiling c sub) = lit≤ tt
+few-edges case (tiling code row column centre) = all-few figures case tt
 
 pub few-unsettled : (case : ℕ) (r : Reached) → T (inRanges case r) → r .notes .unsettled ≤ 3
 unfolding inRanges
 few-unsettled case r h =
-    let n = getD readings case 0 in
-    let t = and-r (placed case (r .choice)) (within n (r .notes)) h in
-    let l = leb→le (r .notes .unsettled) n (and-l (leb (r .notes .unsettled) n) (leb (r .notes .unmatched) n) t) in
-    omega (arith, l, few-readings case)
+    let f = figuresFor case (r .choice) in
+    let m = r .notes in
+    let few = leb (m .unsettled) (f .edges) && leb (m .unmatched) (f .edges) in
+    let t = and-l few (isOneOf (m .readings) (f .least ∷ f .most ∷ [])) (and-r (placed case (r .choice)) (within f m) h) in
+    le-trans (leb→le (m .unsettled) (f .edges) (and-l (leb (m .unsettled) (f .edges)) (leb (m .unmatched) (f .edges)) t)) (few-edges case (r .choice))

@@ -10,10 +10,10 @@ use lib.ListN.{getD, length}
 use Rattle.cube.specs.declared.Cube.{Cube}
 use Rattle.cube.specs.Bits.{numberOf}
 use Rattle.face.specs.Face.{isFace, faceOf}
-use Rattle.notes.specs.Notes.{noNotes}
+use Rattle.notes.specs.Notes.{noNotes, testsOf}
 use Rattle.interior.specs.Pick.{areAmbiguousFaces, Diagonal, pickWith}
 use Rattle.tilings.specs.Tilings.{isOneOf, columnsOf}
-use Rattle.tilings.specs.Plan.{Question, face, inside, inside13, Plan, nothing, untiled, tile, ask, Reached, run}
+use Rattle.tilings.specs.Plan.{Question, face, inside, inside13, Plan, nothing, untiled, tile, ask, run}
 use Rattle.tilings.specs.Answers.{answersOf}
 use Rattle.family_13.specs.Tables.{«SUB_CONFIG_13»}
 use Rattle.family_13.specs.Plans.{partOf13, partAt13, faces13, plan13}
@@ -38,13 +38,11 @@ unfoldable pub isOffset : ℤ → Bool
 isOffset (pos n) = let p = partOf13 n in leb (p .first) n && ltb (n - p .first) (columnsOf (p .code))
 isOffset (negsuc n) = eqb n 0
 
-abbrev runOf : Cube → Plan → Reached
-runOf q p = run (answersOf q) p noNotes
-
--- the sub-configuration of a cube, the number that the answers to some faces make: it is below n, and what follows it is what the plan leads to
+-- the sub-configuration of a cube, the number that the answers to some faces make: it is below n, and what follows it, with a test counted for each face, is what
+-- the plan leads to
 pub record SubBelow (q : Cube) (faces : List ℤ) (n : ℕ) (plan : Plan) (next : ℕ → Plan) : Type 0 where
   pub below : numberOf (map (faceOf q) faces) < n
-  pub follows : runOf q plan ≡ runOf q (next (numberOf (map (faceOf q) faces)))
+  pub follows : run (answersOf q) plan noNotes ≡ run (answersOf q) (next (numberOf (map (faceOf q) faces))) (testsOf (length faces))
 
 pub record InnerNumbers : Type 0 where
   -- the sub-configuration of case 7 is one of the places of its list, that of case 13 one of SUB_CONFIG_13's

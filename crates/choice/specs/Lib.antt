@@ -1,4 +1,5 @@
 pub mod Choice
+pub mod Figures
 pub mod Inner
 pub mod Kin
 pub mod Ranges

@@ -3,17 +3,13 @@ use Prim.Native.Nat.{ℕ}
 use mathlib.Core.Bool.{Bool, false, Bool·beq, _&&_}
 use mathlib.Core.List.{List, [], _∷_}
 use lib.IntN.{ℤ, pos, negsuc}
-use lib.Dec.{eqb, ltb, leb}
+use lib.Dec.{eqb, ltb}
 use lib.ListN.{getD}
-use Rattle.notes.specs.declared.Notes.{Notes}
 use Rattle.tilings.specs.Tilings.{configurations, tilingsOf, isOneOf, columnsOf, hasCentre}
 use Rattle.tilings.specs.Plan.{Chosen, empty, noTiling, tiling, Reached}
 use Rattle.family_13.specs.Tables.{«SUB_CONFIG_13»}
 use Rattle.choice.specs.Choice.{Said, made, refused}
-
--- how many edge readings a choice for each case makes at most, from case 0
-unfoldable pub readings : List ℕ
-readings = 0 ∷ 0 ∷ 0 ∷ 0 ∷ 3 ∷ 0 ∷ 1 ∷ 3 ∷ 0 ∷ 0 ∷ 1 ∷ 0 ∷ 2 ∷ 0 ∷ 0 ∷ []
+use Rattle.choice.specs.Figures.{figuresFor, within}
 
 -- -1 is negsuc 0
 abbrev isMinus1 : ℤ → Bool
@@ -35,12 +31,9 @@ placed case (tiling code row column centre) =
     && ltb column (columnsOf code)
     && Bool·beq centre (hasCentre code)
 
--- no more unsettled than edge readings, and no more picks without a match
-abbrev pub within : ℕ → Notes → Bool
-within n m = leb (m .unsettled) n && leb (m .unmatched) n
-
+-- with what was counted within the figures of document 02, Change 7
 unfoldable pub inRanges : ℕ → Reached → Bool
-inRanges case r = placed case (r .choice) && within (getD readings case 0) (r .notes)
+inRanges case r = placed case (r .choice) && within (figuresFor case (r .choice)) (r .notes)
 
 -- or one of the refusals of a choice
 unfoldable pub saidInRanges : ℕ → Said → Bool

@@ -51,24 +51,24 @@ all-reached = tt
 
 tests : List Test
 tests =
-    test (planOf 3 0) (5 ∷ []) true (tiled 4 0 0)
-    ∷ test (planOf 3 0) [] true (tiled 3 0 0)
-    ∷ test (planOf 4 0) [] true (tiled 5 0 0)
-    ∷ test (planOf 4 0) [] false (tiled 6 0 0)
-    ∷ test (planOf 4 4) [] true (tiled 6 4 0)
-    ∷ test (planOf 6 0) (2 ∷ []) true (tiled 10 0 0)
-    ∷ test (planOf 6 0) [] true (tiled 8 0 0)
-    ∷ test (planOf 6 0) [] false (tiled 9 0 0)
+    test (planOf 3 0) (5 ∷ []) true (tiled 4 0 0) 1
+    ∷ test (planOf 3 0) [] true (tiled 3 0 0) 1
+    ∷ test (planOf 4 0) [] true (tiled 5 0 0) 3
+    ∷ test (planOf 4 0) [] false (tiled 6 0 0) 3
+    ∷ test (planOf 4 4) [] true (tiled 6 4 0) 3
+    ∷ test (planOf 6 0) (2 ∷ []) true (tiled 10 0 0) 1
+    ∷ test (planOf 6 0) [] true (tiled 8 0 0) 2
+    ∷ test (planOf 6 0) [] false (tiled 9 0 0) 2
     -- case 7 asks faces 1, 2 and 5, and then s = -7
-    ∷ test (planOf 7 0) [] true (tiled 11 0 0)
-    ∷ test (planOf 7 0) (1 ∷ []) true (tiled 12 0 0)
-    ∷ test (planOf 7 0) (2 ∷ []) true (tiled 12 0 1)
-    ∷ test (planOf 7 0) (5 ∷ []) true (tiled 12 0 2)
-    ∷ test (planOf 7 0) (1 ∷ 2 ∷ []) true (centred 13 0 0)
-    ∷ test (planOf 7 0) (1 ∷ 5 ∷ []) true (centred 13 0 1)
-    ∷ test (planOf 7 0) (2 ∷ 5 ∷ []) true (centred 13 0 2)
-    ∷ test (planOf 7 0) (1 ∷ 2 ∷ 5 ∷ []) false (tiled 14 0 0)
-    ∷ test (planOf 7 0) (1 ∷ 2 ∷ 5 ∷ []) true (tiled 15 0 0)
+    ∷ test (planOf 7 0) [] true (tiled 11 0 0) 3
+    ∷ test (planOf 7 0) (1 ∷ []) true (tiled 12 0 0) 3
+    ∷ test (planOf 7 0) (2 ∷ []) true (tiled 12 0 1) 3
+    ∷ test (planOf 7 0) (5 ∷ []) true (tiled 12 0 2) 3
+    ∷ test (planOf 7 0) (1 ∷ 2 ∷ []) true (centred 13 0 0) 3
+    ∷ test (planOf 7 0) (1 ∷ 5 ∷ []) true (centred 13 0 1) 3
+    ∷ test (planOf 7 0) (2 ∷ 5 ∷ []) true (centred 13 0 2) 3
+    ∷ test (planOf 7 0) (1 ∷ 2 ∷ 5 ∷ []) false (tiled 14 0 0) 6
+    ∷ test (planOf 7 0) (1 ∷ 2 ∷ 5 ∷ []) true (tiled 15 0 0) 6
     ∷ []
 
 tests-hold : map chosenIn tests ≡ map (λ t. t .makes) tests

@@ -12,7 +12,7 @@ use Rattle.cube.specs.Bits.{numberOf}
 use Rattle.cube.proofs.Table.{agree, under}
 use Rattle.face.specs.Face.{isFace, faceOf}
 use Rattle.notes.specs.declared.Notes.{Notes}
-use Rattle.notes.specs.Notes.{noNotes}
+use Rattle.notes.specs.Notes.{noNotes, testsOf}
 use Rattle.interior.specs.declared.Sight.{Sight}
 use Rattle.interior.specs.Interior.{insideOf}
 use Rattle.tilings.specs.Tables.{entry}
@@ -35,11 +35,11 @@ unfolding «TEST_3»
 face-3 = in-rows (λ k. getD «TEST_3» k (pos 0)) 3 24 refl
 
 module _ (q : Cube) (c : ℕ) (z : ℤ) (e : z ≡ getD «TEST_3» c (pos 0)) (b : Bool) (f : b ≡ faceOf q z) where
-  pub three-yes : b ≡ true → made Tilings.«TILING_3_2» c noNotes ≡ run (answersOf q) (plan3 c) noNotes
+  pub three-yes : b ≡ true → made Tilings.«TILING_3_2» c (testsOf 1) ≡ run (answersOf q) (plan3 c) noNotes
   unfolding run plan3
   three-yes h = rw (sym e, sym f, h)
 
-  pub three-no : b ≡ false → made Tilings.«TILING_3_1» c noNotes ≡ run (answersOf q) (plan3 c) noNotes
+  pub three-no : b ≡ false → made Tilings.«TILING_3_1» c (testsOf 1) ≡ run (answersOf q) (plan3 c) noNotes
   unfolding run plan3
   three-no h = rw (sym e, sym f, h)
 
@@ -68,12 +68,12 @@ unfolding «TEST_6»
 is-face-6 = under 48 (λ c. isFace (rowed (λ k. entry «TEST_6» k 0) 6 c)) tt
 
 module _ (q : Cube) (c : ℕ) (h : c < 48) (z : ℤ) (e : z ≡ entry «TEST_6» c 0) (b : Bool) (f : b ≡ faceOf q z) (r : Reached) where
-  pub six-yes : b ≡ true → r ≡ made Tilings.«TILING_6_2» c noNotes → r ≡ run (answersOf q) (plan6 c) noNotes
+  pub six-yes : b ≡ true → r ≡ made Tilings.«TILING_6_2» c (testsOf 1) → r ≡ run (answersOf q) (plan6 c) noNotes
   unfolding run plan6
   six-yes g w = rw (w, sym e, sym f, g)
 
   pub six-settled : b ≡ false → (k : ℕ) → k ≡ natAbs z → (s : ℤ) → s ≡ sideOf (ltb c 24) → (l : Sight) → l ≡ insideOf q (k ∷ []) s
-      → r ≡ settled l (made Tilings.«TILING_6_1_1» c) (made Tilings.«TILING_6_1_2» c) noNotes → r ≡ run (answersOf q) (plan6 c) noNotes
+      → r ≡ settled l (made Tilings.«TILING_6_1_1» c) (made Tilings.«TILING_6_1_2» c) (testsOf 1) → r ≡ run (answersOf q) (plan6 c) noNotes
   unfolding run plan6
   six-settled g k i s j l t w = rw (w, t, i, j, e, sym (ap (faceOf q) e), sym f, g, sym (side-6 c h))
 
@@ -83,7 +83,7 @@ unfolding «TEST_7»
 side-7 c h = agree (λ k. negℤ (entry «TEST_7» k 3)) (λ k. sideOf (leb 8 k)) 16 refl c h
 
 pub seven-settled : (q : Cube) (c sub : ℕ) → c < 16 → sub ≡ 7 → (s : ℤ) → s ≡ sideOf (leb 8 c) → (l : Sight) → l ≡ insideOf q faces125 s
-    → settled l (made Tilings.«TILING_7_4_1» c) (made Tilings.«TILING_7_4_2» c) noNotes ≡ run (answersOf q) (part7 c sub) noNotes
+    → settled l (made Tilings.«TILING_7_4_1» c) (made Tilings.«TILING_7_4_2» c) (testsOf 3) ≡ run (answersOf q) (part7 c sub) (testsOf 3)
 unfolding run part7
 seven-settled q c sub h i s e l f = rw (i, f, e, sym (side-7 c h))
 
@@ -94,10 +94,10 @@ abbrev pub column7 : ℕ → ℕ
 column7 sub = columnOf (part7 0 sub)
 
 pub seven-tabled : (q : Cube) (c sub : ℕ) → sub ≤ 7 → (sub ≡ 7 → ⊥)
-    → reach (tiling (getD (tableOf code7 7) sub 0) c (getD (tableOf column7 7) sub 0) (hasCentre (getD (tableOf code7 7) sub 0))) noNotes ≡ run (answersOf q) (part7 c sub) noNotes
+    → reach (tiling (getD (tableOf code7 7) sub 0) c (getD (tableOf column7 7) sub 0) (hasCentre (getD (tableOf code7 7) sub 0))) (testsOf 3) ≡ run (answersOf q) (part7 c sub) (testsOf 3)
 unfolding run part7
 seven-tabled q c sub l h =
-    agree (λ k. reach (tiling (getD (tableOf code7 7) k 0) c (getD (tableOf column7 7) k 0) (hasCentre (getD (tableOf code7 7) k 0))) noNotes) (λ k. run (answersOf q) (part7 c k) noNotes) 7 refl sub
+    agree (λ k. reach (tiling (getD (tableOf code7 7) k 0) c (getD (tableOf column7 7) k 0) (hasCentre (getD (tableOf code7 7) k 0))) (testsOf 3)) (λ k. run (answersOf q) (part7 c k) (testsOf 3)) 7 refl sub
     (omega (arith, l, h))
 
 -- the faces as the code reads them
@@ -109,6 +109,6 @@ unfolding «TEST_7»
 reads7 = agree (λ c. read7 0 c ∷ read7 1 c ∷ read7 2 c ∷ []) faces7 16 refl
 
 pub seven-asked : (q : Cube) (c : ℕ) → c < 16 → (sub : ℕ) → sub ≡ numberOf (map (faceOf q) (read7 0 c ∷ read7 1 c ∷ read7 2 c ∷ []))
-    → run (answersOf q) (part7 c sub) noNotes ≡ run (answersOf q) (plan7 c) noNotes
+    → run (answersOf q) (part7 c sub) (testsOf 3) ≡ run (answersOf q) (plan7 c) noNotes
 unfolding plan7
 seven-asked q c h sub e = rw (e, ap (λ ns. numberOf (map (faceOf q) ns)) (reads7 c h)) (sym (in-turn (answersOf q) (faces7 c) (part7 c) noNotes))

@@ -3,7 +3,7 @@
 // cases 4, 6 and 7, -7 in the second.
 ghost use mathlib.Core.Path.{_≡_};
 ghost use Prim.Native.Nat.{_<_, _≤_};
-ghost use Rattle.notes.specs.Notes.{noNotes};
+ghost use Rattle.notes.specs.Notes.{noNotes, testsOf};
 ghost use Rattle.tilings.specs.Plan.{run};
 ghost use Rattle.tilings.specs.Answers.{answersOf, reached};
 ghost use Rattle.families.specs.Plans.{plan3, plan4, plan6, part7, plan7};
@@ -25,9 +25,9 @@ pub fn case_3(q: Cube, c: u8) -> Counted
     ensures { λ r. ⌜ reached r ≡ run (answersOf q) (plan3 c) noNotes ⌝ }
 {
     if face_answer(q, Face(FACE_3[(c / 8) as usize][(c % 8) as usize])) {
-        return plain(TILING_3_2, c);
+        return plain(TILING_3_2, c, 1);
     }
-    plain(TILING_3_1, c)
+    plain(TILING_3_1, c, 1)
 }
 
 pub fn case_4(q: Cube, c: u8) -> Counted
@@ -36,6 +36,7 @@ pub fn case_4(q: Cube, c: u8) -> Counted
 {
     settle(
         test_interior_three(q, side(c < 4)),
+        0,
         TILING_4_1,
         c,
         TILING_4_2,
@@ -58,10 +59,10 @@ pub fn case_6(q: Cube, c: u8) -> Counted
 {
     let face = Face(FACE_6[(c / 8) as usize][(c % 8) as usize]);
     if face_answer(q, face) {
-        return plain(TILING_6_2, c);
+        return plain(TILING_6_2, c, 1);
     }
     let found = test_interior(q, ambiguous(face), side(c < 24));
-    settle(found, TILING_6_1_1, c, TILING_6_1_2, c)
+    settle(found, 1, TILING_6_1_1, c, TILING_6_1_2, c)
 }
 
 const FIRST_7: [[i8; 8]; 2] = [[1, 3, 4, 4, 2, 1, 2, 3], [-3, -2, -1, -2, -4, -4, -3, -1]];
@@ -83,14 +84,16 @@ const TILING_OF_7: [u8; 7] = [
 
 const COLUMN_OF_7: [u8; 7] = [0, 0, 1, 0, 2, 1, 2];
 
+// After the three face tests.
 fn part_7(q: Cube, c: u8, sub: u32) -> Counted
     requires { ⌜ (c < 16) × (sub ≤ 7) ⌝ }
-    ensures { λ r. ⌜ reached r ≡ run (answersOf q) (part7 c sub) noNotes ⌝ }
+    ensures { λ r. ⌜ reached r ≡ run (answersOf q) (part7 c sub) (testsOf 3) ⌝ }
 {
     if sub == 7 {
         // -s, so 7 in the second half of the rows
         return settle(
             test_interior_three(q, side(8 <= c)),
+            3,
             TILING_7_4_1,
             c,
             TILING_7_4_2,
@@ -98,7 +101,7 @@ fn part_7(q: Cube, c: u8, sub: u32) -> Counted
         );
     }
     let i = sub as usize;
-    tile(TILING_OF_7[i], c, COLUMN_OF_7[i], notes::none())
+    tile(TILING_OF_7[i], c, COLUMN_OF_7[i], notes::tests(3))
 }
 
 pub fn case_7(q: Cube, c: u8) -> Counted

@@ -62,7 +62,7 @@ pub fn choose_plain(q: Cube, case: u8, c: u8) -> Counted
     requires { ⌜ (c < getD configurations case 0) × (isOneOf case asking ≡ false) ⌝ }
     ensures { λ r. ⌜ reached r ≡ run (answersOf q) (planOf case c) noNotes ⌝ }
 {
-    plain(first_tiling(case), c)
+    plain(first_tiling(case), c, 0)
 }
 
 // The choice for a configuration of a case.

@@ -56,15 +56,15 @@ all-reached = tt
 tests : List Test
 tests =
     -- 13_5_2 uses the other configuration's row; opposite faces 1 and 3 true with none of the others: no tiling
-    test (plan13 0) [] true (tiled 29 0 0)
-    ∷ test (plan13 0) (1 ∷ 2 ∷ 3 ∷ 4 ∷ 5 ∷ 6 ∷ []) true (tiled 30 0 0)
-    ∷ test (plan13 0) (1 ∷ []) true (tiled 31 0 0)
-    ∷ test (plan13 0) (1 ∷ 2 ∷ []) true (centred 33 0 0)
-    ∷ test (plan13 0) (1 ∷ 2 ∷ 6 ∷ []) true (centred 35 0 0)
-    ∷ test (plan13 0) (1 ∷ 2 ∷ 5 ∷ []) true (tiled 36 0 0)
-    ∷ test (plan13 0) (1 ∷ 2 ∷ 5 ∷ []) false (tiled 37 1 0)
-    ∷ test (plan13 1) (2 ∷ 3 ∷ 5 ∷ []) false (tiled 37 0 0)
-    ∷ test (plan13 0) (1 ∷ 3 ∷ []) true (noTiling 0 5)
+    test (plan13 0) [] true (tiled 29 0 0) 6
+    ∷ test (plan13 0) (1 ∷ 2 ∷ 3 ∷ 4 ∷ 5 ∷ 6 ∷ []) true (tiled 30 0 0) 6
+    ∷ test (plan13 0) (1 ∷ []) true (tiled 31 0 0) 6
+    ∷ test (plan13 0) (1 ∷ 2 ∷ []) true (centred 33 0 0) 6
+    ∷ test (plan13 0) (1 ∷ 2 ∷ 6 ∷ []) true (centred 35 0 0) 6
+    ∷ test (plan13 0) (1 ∷ 2 ∷ 5 ∷ []) true (tiled 36 0 0) 7
+    ∷ test (plan13 0) (1 ∷ 2 ∷ 5 ∷ []) false (tiled 37 1 0) 7
+    ∷ test (plan13 1) (2 ∷ 3 ∷ 5 ∷ []) false (tiled 37 0 0) 7
+    ∷ test (plan13 0) (1 ∷ 3 ∷ []) true (noTiling 0 5) 6
     ∷ []
 
 tests-hold : map chosenIn tests ≡ map (λ t. t .makes) tests

@@ -2,7 +2,7 @@
 // that follows the case's plan. Public: `case_13`.
 ghost use mathlib.Core.Path.{_≡_};
 ghost use Prim.Native.Nat.{_<_, _≤_};
-ghost use Rattle.notes.specs.Notes.{noNotes};
+ghost use Rattle.notes.specs.Notes.{noNotes, testsOf};
 ghost use Rattle.tilings.specs.Plan.{run};
 ghost use Rattle.tilings.specs.Answers.{answersOf, reached};
 ghost use Rattle.family_13.specs.Plans.{tile13, partAt13, plan13};
@@ -56,27 +56,27 @@ const COLUMN_OF_13: [[u8; 8]; 8] = [
     [0, 4, 0, 2, 0, 1, 0, 0],
 ];
 
-// 13_5_2 is at the other configuration's row.
+// After the six face tests. 13_5 is told by one test more, and 13_5_2 is at the other configuration's row.
 fn tile_13(q: Cube, c: u8, code: u8, column: u8) -> Counted
     requires { ⌜ c < 2 ⌝ }
-    ensures { λ r. ⌜ reached r ≡ run (answersOf q) (tile13 c code column) noNotes ⌝ }
+    ensures { λ r. ⌜ reached r ≡ run (answersOf q) (tile13 c code column) (testsOf 6) ⌝ }
 {
     if code == TILING_13_5_1 {
         if interior_test_case13(q) {
-            return tile(TILING_13_5_1, c, column, notes::none());
+            return tile(TILING_13_5_1, c, column, notes::tests(7));
         }
-        return tile(TILING_13_5_2, 1 - c, column, notes::none());
+        return tile(TILING_13_5_2, 1 - c, column, notes::tests(7));
     }
-    tile(code, c, column, notes::none())
+    tile(code, c, column, notes::tests(6))
 }
 
 fn part_13(q: Cube, c: u8, sub: u32) -> Counted
     requires { ⌜ (c < 2) × (sub ≤ 63) ⌝ }
-    ensures { λ r. ⌜ reached r ≡ run (answersOf q) (partAt13 c sub) noNotes ⌝ }
+    ensures { λ r. ⌜ reached r ≡ run (answersOf q) (partAt13 c sub) (testsOf 6) ⌝ }
 {
     let code = TILING_OF_13[(sub / 4) as usize][(sub % 4) as usize];
     if code == NONE {
-        return untiled(c, sub as u8, notes::none());
+        return untiled(c, sub as u8, notes::tests(6));
     }
     tile_13(
         q,

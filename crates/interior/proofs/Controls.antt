@@ -85,9 +85,9 @@ record Test : Type 0 where
 abbrev test : Cube → List ℕ → ℤ → Sight → Test
 test q ns s l = record { q = q; faces = ns; s = s; says = l }
 
--- the value, unsettled and unmatched
-abbrev sees : Bool → ℕ → ℕ → Sight
-sees b n k = seen b (record { unsettled = n; unmatched = k })
+-- the value, unsettled, unmatched and readings, one for each face
+abbrev sees : Bool → ℕ → ℕ → ℕ → Sight
+sees b n k l = seen b (record { unsettled = n; unmatched = k; readings = l })
 
 -- those of cases 4 and 7
 abbrev three : List ℕ
@@ -103,36 +103,36 @@ apart = cube 0xc0000000 0xc0400000 down 0xc0000000 0xc0400000 up 0x40400000 down
 tests : List Test
 tests =
     -- document 01's cubes of case 4, s as TEST_4 has it: c0 = c6 = 1, 9 and 3; all 1
-    test (cube up down down down down down up down) three (pos 7) (sees true 0 0)
-    ∷ test (cube 0x41100000 down down down down down 0x41100000 down) three (pos 7) (sees false 0 0)
-    ∷ test (cube 0x40400000 down down down down down 0x40400000 down) three (pos 7) (sees false 3 0)
-    ∷ test (cube up up up up up up up up) three (pos 7) (sees false 3 0)
+    test (cube up down down down down down up down) three (pos 7) (sees true 0 0 3)
+    ∷ test (cube 0x41100000 down down down down down 0x41100000 down) three (pos 7) (sees false 0 0 3)
+    ∷ test (cube 0x40400000 down down down down down 0x40400000 down) three (pos 7) (sees false 3 0 3)
+    ∷ test (cube up up up up up up up up) three (pos 7) (sees false 3 0 3)
     -- the third with other signs and s = -7
-    ∷ test (cube 0xc0400000 up up up up up 0xc0400000 up) three (negsuc 6) (sees false 3 0)
+    ∷ test (cube 0xc0400000 up up up up up 0xc0400000 up) three (negsuc 6) (sees false 3 0 3)
     -- true by the first reading alone, by the second, by the third; counts of the others stand
-    ∷ test (cube 0xc0000000 up 0xc0400000 0x40800000 0x40400000 0xc0000000 0x40800000 0x40400000) three (pos 7) (sees true 2 0)
-    ∷ test (cube 0xc0000000 down 0x40400000 0x40400000 up down down 0xc0000000) three (pos 7) (sees true 2 0)
-    ∷ test mixed three (pos 7) (sees true 2 0)
+    ∷ test (cube 0xc0000000 up 0xc0400000 0x40800000 0x40400000 0xc0000000 0x40800000 0x40400000) three (pos 7) (sees true 2 0 3)
+    ∷ test (cube 0xc0000000 down 0x40400000 0x40400000 up down down 0xc0000000) three (pos 7) (sees true 2 0 3)
+    ∷ test mixed three (pos 7) (sees true 2 0 3)
     -- the last one by fewer faces, and by a face twice
-    ∷ test mixed (1 ∷ []) (pos 7) (sees false 1 0)
-    ∷ test mixed (5 ∷ []) (pos 7) (sees true 0 0)
-    ∷ test mixed (1 ∷ 2 ∷ []) (pos 7) (sees false 2 0)
-    ∷ test mixed (2 ∷ 5 ∷ []) (pos 7) (sees true 1 0)
-    ∷ test mixed (5 ∷ 2 ∷ []) (pos 7) (sees true 1 0)
-    ∷ test mixed (1 ∷ 1 ∷ []) (pos 7) (sees false 2 0)
+    ∷ test mixed (1 ∷ []) (pos 7) (sees false 1 0 1)
+    ∷ test mixed (5 ∷ []) (pos 7) (sees true 0 0 1)
+    ∷ test mixed (1 ∷ 2 ∷ []) (pos 7) (sees false 2 0 2)
+    ∷ test mixed (2 ∷ 5 ∷ []) (pos 7) (sees true 1 0 2)
+    ∷ test mixed (5 ∷ 2 ∷ []) (pos 7) (sees true 1 0 2)
+    ∷ test mixed (1 ∷ 1 ∷ []) (pos 7) (sees false 2 0 2)
     -- one product of zero and two blank readings; three blank ones
-    ∷ test (cube down 0x40000000 0x40800000 0xc0000000 up 0xc0000000 0xc0000000 up) three (pos 7) (sees false 3 0)
-    ∷ test (cube 0 0 0 0 0 0 0 0) three (pos 7) (sees false 3 3)
+    ∷ test (cube down 0x40000000 0x40800000 0xc0000000 up 0xc0000000 0xc0000000 up) three (pos 7) (sees false 3 0 3)
+    ∷ test (cube 0 0 0 0 0 0 0 0) three (pos 7) (sees false 3 3 3)
     -- no pair matches: edge 0 is read each time; unsettled, settled, and true
-    ∷ test (cube 0x40000000 0xc0000000 0x40400000 0xc0400000 0xc0000000 0x40000000 0xc0000000 0x40000000) three (pos 7) (sees false 3 3)
-    ∷ test (cube 0xc0400000 0x40000000 up 0xc0000000 0xc0400000 0x40400000 up down) three (pos 7) (sees false 0 3)
-    ∷ test apart three (pos 7) (sees true 0 3)
+    ∷ test (cube 0x40000000 0xc0000000 0x40400000 0xc0400000 0xc0000000 0x40000000 0xc0000000 0x40000000) three (pos 7) (sees false 3 3 3)
+    ∷ test (cube 0xc0400000 0x40000000 up 0xc0000000 0xc0400000 0x40400000 up down) three (pos 7) (sees false 0 3 3)
+    ∷ test apart three (pos 7) (sees true 0 3 3)
     -- the last one by fewer faces, and with a match for s = -7
-    ∷ test apart (2 ∷ []) (pos 7) (sees true 0 1)
-    ∷ test apart (4 ∷ 6 ∷ []) (pos 7) (sees true 0 2)
-    ∷ test apart three (negsuc 6) (sees true 0 0)
+    ∷ test apart (2 ∷ []) (pos 7) (sees true 0 1 1)
+    ∷ test apart (4 ∷ 6 ∷ []) (pos 7) (sees true 0 2 2)
+    ∷ test apart three (negsuc 6) (sees true 0 0 3)
     -- edge 0 by a match of corners 1 and 7: read, and none is without a match
-    ∷ test (cube down up down down down down down up) (2 ∷ []) (pos 7) (sees true 0 0)
+    ∷ test (cube down up down down down down down up) (2 ∷ []) (pos 7) (sees true 0 0 1)
     ∷ []
 
 tests-hold : map (λ t. insideOf (t .q) (t .faces) (t .s)) tests ≡ map (λ t. t .says) tests

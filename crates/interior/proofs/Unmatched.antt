@@ -16,7 +16,7 @@ use Rattle.interior.specs.Pick.{IsAmbiguousFace, isAmbiguousFace, areAmb
 use Rattle.interior.specs.Interior.{joined, seenAs, lookAt, insideBy, insideOf}
 use Rattle.interior.proofs.Picks.{matched-any}
 
-one-of-six : (n : ℕ) → T (isAmbiguousFace n) → IsAmbiguousFace n
+pub one-of-six : (n : ℕ) → T (isAmbiguousFace n) → IsAmbiguousFace n
 one-of-six n t = (leb→le 1 n (and-l (leb 1 n) (leb n 6) t), leb→le n 6 (and-r (leb 1 n) (leb n 6) t))
 
 -- with none or all of the others

@@ -173,7 +173,8 @@ fn join(x: Sight, y: Sight) -> Sight
 // The interior test for one face, of cases 6 and 10.
 pub fn test_interior(q: Cube, k: AmbiguousFace, side: Side) -> Sight
     requires { ⌜ IsAmbiguousFace (k .0) ⌝ }
-    ensures { λ r. ⌜ r ≡ insideOf q (k .0 ∷ []) (side .0) ⌝ }
+    ensures seen { λ r. ⌜ r ≡ insideOf q (k .0 ∷ []) (side .0) ⌝ }
+    ensures few { λ r. ⌜ counted r ≤ 3 ⌝ }
 {
     let values = cube::values(q);
     let p = interior_ambiguity(diagonals_of(q, side), k);
@@ -183,7 +184,8 @@ pub fn test_interior(q: Cube, k: AmbiguousFace, side: Side) -> Sight
 // For two faces, of case 12. All readings are made.
 pub fn test_interior_two(q: Cube, k: AmbiguousFace, l: AmbiguousFace, side: Side) -> Sight
     requires { ⌜ IsAmbiguousFace (k .0) × IsAmbiguousFace (l .0) ⌝ }
-    ensures { λ r. ⌜ r ≡ insideOf q (k .0 ∷ l .0 ∷ []) (side .0) ⌝ }
+    ensures seen { λ r. ⌜ r ≡ insideOf q (k .0 ∷ l .0 ∷ []) (side .0) ⌝ }
+    ensures few { λ r. ⌜ counted r ≤ 6 ⌝ }
 {
     let values = cube::values(q);
     let d = diagonals_of(q, side);
@@ -197,7 +199,8 @@ pub fn test_interior_two(q: Cube, k: AmbiguousFace, l: AmbiguousFace, side: Side
 
 // For faces 1, 2 and 5, of cases 4 and 7. All readings are made.
 pub fn test_interior_three(q: Cube, side: Side) -> Sight
-    ensures { λ r. ⌜ r ≡ insideOf q (1 ∷ 2 ∷ 5 ∷ []) (side .0) ⌝ }
+    ensures seen { λ r. ⌜ r ≡ insideOf q (1 ∷ 2 ∷ 5 ∷ []) (side .0) ⌝ }
+    ensures few { λ r. ⌜ counted r ≤ 9 ⌝ }
 {
     let values = cube::values(q);
     let d = diagonals_of(q, side);

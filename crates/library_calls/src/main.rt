@@ -60,6 +60,7 @@ fn choose(k: i8, c: i8, q: Cube) {
             r.centre,
             r.unsettled,
             r.unmatched,
+            r.readings,
         ],
     );
 }

@@ -7,7 +7,7 @@ use Rattle.binary32.specs.Numbers.{plusZero}
 use Rattle.face.specs.Face as Face
 use Rattle.edge.specs.Edge.{rising, beyond, crossed, blank, one, two}
 use Rattle.edge.specs.Edge as Edge
-use Rattle.notes.specs.Notes.{noNotes}
+use Rattle.notes.specs.Notes.{noNotes, testsOf}
 use Rattle.tilings.specs.Plan.{empty, noTiling, tiling, reach}
 use Rattle.choice.specs.Choice.{made, refused}
 use Rattle.list.specs.Lists.{done, refusedAt}
@@ -15,18 +15,18 @@ use Rattle.mc33_c.specs.Answers.{reachedNumbers, choiceNumbers, faceNumb
 
 choices : map choiceNumbers
     (made (reach empty noNotes)
-    ∷ made (reach (noTiling 1 5) noNotes)
-    ∷ made (reach (tiling 33 11 7 true) (record { unsettled = 3; unmatched = 1 }))
-    ∷ made (reach (tiling 32 11 7 false) (record { unsettled = 0; unmatched = 2 }))
+    ∷ made (reach (noTiling 1 5) (testsOf 6))
+    ∷ made (reach (tiling 33 11 7 true) (record { unsettled = 3; unmatched = 1; readings = 4 }))
+    ∷ made (reach (tiling 32 11 7 false) (record { unsettled = 0; unmatched = 2; readings = 5 }))
     ∷ refused 2
     ∷ refused 3
     ∷ [])
-    ≡ record { refusal = 0; code = 0; row = 0; column = 0; centre = 0; unsettled = 0; unmatched = 0 }
-    ∷ record { refusal = 0; code = 255; row = 1; column = 5; centre = 0; unsettled = 0; unmatched = 0 }
-    ∷ record { refusal = 0; code = 33; row = 11; column = 7; centre = 1; unsettled = 3; unmatched = 1 }
-    ∷ record { refusal = 0; code = 32; row = 11; column = 7; centre = 0; unsettled = 0; unmatched = 2 }
-    ∷ record { refusal = 2; code = 0; row = 0; column = 0; centre = 0; unsettled = 0; unmatched = 0 }
-    ∷ record { refusal = 3; code = 0; row = 0; column = 0; centre = 0; unsettled = 0; unmatched = 0 }
+    ≡ record { refusal = 0; code = 0; row = 0; column = 0; centre = 0; unsettled = 0; unmatched = 0; readings = 0 }
+    ∷ record { refusal = 0; code = 255; row = 1; column = 5; centre = 0; unsettled = 0; unmatched = 0; readings = 6 }
+    ∷ record { refusal = 0; code = 33; row = 11; column = 7; centre = 1; unsettled = 3; unmatched = 1; readings = 4 }
+    ∷ record { refusal = 0; code = 32; row = 11; column = 7; centre = 0; unsettled = 0; unmatched = 2; readings = 5 }
+    ∷ record { refusal = 2; code = 0; row = 0; column = 0; centre = 0; unsettled = 0; unmatched = 0; readings = 0 }
+    ∷ record { refusal = 3; code = 0; row = 0; column = 0; centre = 0; unsettled = 0; unmatched = 0; readings = 0 }
     ∷ []
 unfolding choiceNumbers reachedNumbers
 choices = refl

@@ -30,11 +30,11 @@ use Rattle.mc33_c.specs.declared.Mc33Edge.{Mc33Edge}
 use Rattle.mc33_c.specs.Answers.{answered, choiceNumbers, faceNumbers, readingNumbers, edgeNumbers, outcomeNumbers}
 
 pub filled : (code row column : ℕ) (centre : Bool) (m : Notes)
-    → record { refusal = 0; code = code; row = row; column = column; centre = boolByte centre; unsettled = m .unsettled; unmatched = m .unmatched } ≡ answered code row column (bitOf centre) m
+    → record { refusal = 0; code = code; row = row; column = column; centre = boolByte centre; unsettled = m .unsettled; unmatched = m .unmatched; readings = m .readings } ≡ answered code row column (bitOf centre) m
 filled code row column centre m = ap (λ (n : ℕ). answered code row column n m) (bit-bound centre .1)
 
 pub no-choice : (why : Refusal) (n : ℕ) → n ≡ refusalNumber why
-    → record { refusal = n; code = 0; row = 0; column = 0; centre = 0; unsettled = 0; unmatched = 0 } ≡ choiceNumbers (refused (refusalNumber why))
+    → record { refusal = n; code = 0; row = 0; column = 0; centre = 0; unsettled = 0; unmatched = 0; readings = 0 } ≡ choiceNumbers (refused (refusalNumber why))
 unfolding choiceNumbers
 no-choice why n e = rw e
 

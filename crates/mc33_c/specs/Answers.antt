@@ -17,9 +17,9 @@ use Rattle.mc33_c.specs.declared.Mc33Outcome.{Mc33Outcome}
 
 abbrev pub answered : ℕ → ℕ → ℕ → ℕ → Notes → Mc33Choice
 answered code row column centre m =
-    record { refusal = 0; code = code; row = row; column = column; centre = centre; unsettled = m .unsettled; unmatched = m .unmatched }
+    record { refusal = 0; code = code; row = row; column = column; centre = centre; unsettled = m .unsettled; unmatched = m .unmatched; readings = m .readings }
 
--- document 01, 'Program': the fields of a tiling; empty is zeros; no tiling is 255, configuration, sub-configuration, 0; then what was counted, which for both is nothing
+-- document 01, 'Program': the fields of a tiling; empty is zeros; no tiling is 255, configuration, sub-configuration, 0; then what was counted
 abbrev numbersBy : Chosen → Notes → Mc33Choice
 numbersBy empty m = answered 0 0 0 0 m
 numbersBy (noTiling c sub) m = answered 255 c sub 0 m
@@ -30,7 +30,7 @@ reachedNumbers r = numbersBy (r .choice) (r .notes)
 
 unfoldable pub choiceNumbers : Said → Mc33Choice
 choiceNumbers (made r) = reachedNumbers r
-choiceNumbers (refused n) = record { refusal = n; code = 0; row = 0; column = 0; centre = 0; unsettled = 0; unmatched = 0 }
+choiceNumbers (refused n) = record { refusal = n; code = 0; row = 0; column = 0; centre = 0; unsettled = 0; unmatched = 0; readings = 0 }
 
 unfoldable pub faceNumbers : Face.Said → Mc33Face
 faceNumbers (Face.answer b) = record { refusal = 0; answer = bitOf b }

@@ -39,6 +39,7 @@ pub struct Mc33Choice {
     pub centre: u8,
     pub unsettled: u8,
     pub unmatched: u8,
+    pub readings: u8,
 }
 
 // `answer` is 1 for true.
@@ -70,7 +71,7 @@ pub struct Mc33Outcome {
 pub extern "C" fn mc33_version() -> u32
     ensures { λ r. ⌜ r ≡ version ⌝ }
 {
-    3000
+    4000
 }
 
 // The f32 square root of x: the nearest value. A NaN has no pattern of its own here.
@@ -103,6 +104,7 @@ fn no_choice(why: Refusal) -> Mc33Choice
         centre: 0,
         unsettled: 0,
         unmatched: 0,
+        readings: 0,
     }
 }
 
@@ -117,6 +119,7 @@ fn answered(code: u8, row: u8, column: u8, centre: bool, notes: Notes) -> Mc33Ch
         centre: centre as u8,
         unsettled: notes.unsettled,
         unmatched: notes.unmatched,
+        readings: notes.readings,
     }
 }
 

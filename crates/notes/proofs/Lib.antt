@@ -1,2 +1,3 @@
+pub mod Bounds
 mod Looks
 pub mod Sums

@@ -1,11 +1,12 @@
--- Nothing counted adds nothing, on either side. Assumes nothing.
+-- Counts added: nothing, and tests after tests. Assumes nothing.
 use mathlib.Core.Path.{_≡_}
-use native.Mathlib.Nat.{zero-add, add-zero}
+use Prim.Native.Nat.{ℕ, _+_}
+use native.Mathlib.Nat.{add-zero, add-assoc}
 use Rattle.notes.specs.declared.Notes.{Notes}
-use Rattle.notes.specs.Notes.{noNotes, added}
+use Rattle.notes.specs.Notes.{noNotes, testsOf, added}
 
-pub none-added : (k : Notes) → added noNotes k ≡ k
-none-added k = λ i. record { unsettled = zero-add (k .unsettled) i; unmatched = zero-add (k .unmatched) i }
+pub added-none : (m : Notes) → added m noNotes ≡ m
+added-none m = λ i. record { unsettled = add-zero (m .unsettled) i; unmatched = add-zero (m .unmatched) i; readings = add-zero (m .readings) i }
 
-pub added-none : (k : Notes) → added k noNotes ≡ k
-added-none k = λ i. record { unsettled = add-zero (k .unsettled) i; unmatched = add-zero (k .unmatched) i }
+pub tests-added : (m : Notes) (k n : ℕ) → added (added m (testsOf k)) (testsOf n) ≡ added m (testsOf (k + n))
+tests-added m k n = λ i. record { unsettled = add-zero (m .unsettled + 0) i; unmatched = add-zero (m .unmatched + 0) i; readings = add-assoc (m .readings) k n i }

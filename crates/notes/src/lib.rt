@@ -1,14 +1,15 @@
-// What a choice counts on its way: document 01, 'A choice', and document 02, Change 4. `none`, `look` and `add` alone set the fields; they are read
-// where an answer is written.
+// What a choice counts on its way: document 01, 'A choice', and document 02, Changes 4 and 7. `none`, `tests`, `look` and `add` alone set the
+// fields; they are read where an answer is written.
 ghost use mathlib.Core.Path.{_≡_};
 ghost use Prim.Native.Nat.{_+_, _≤_};
-ghost use Rattle.notes.specs.Notes.{noNotes, lookOf, added, total};
+ghost use Rattle.notes.specs.Notes.{noNotes, testsOf, lookOf, added, total};
 
 // Unsettled: the edge readings that are crossed with product zero or blank (document 02, Change 2). Unmatched: the
-// diagonal picks without a match (Change 4).
+// diagonal picks without a match (Change 4). Readings: the face tests, edge readings and case-13 tests (Change 7).
 pub struct Notes {
     pub unsettled: u8,
     pub unmatched: u8,
+    pub readings: u8,
 }
 
 pub fn none() -> Notes
@@ -17,6 +18,18 @@ pub fn none() -> Notes
     Notes {
         unsettled: 0,
         unmatched: 0,
+        readings: 0,
+    }
+}
+
+// What so many face tests count, and likewise case-13 tests.
+pub fn tests(n: u8) -> Notes
+    ensures { λ r. ⌜ r ≡ testsOf n ⌝ }
+{
+    Notes {
+        unsettled: 0,
+        unmatched: 0,
+        readings: n,
     }
 }
 
@@ -27,6 +40,7 @@ pub fn look(unsettled: bool, matched: bool) -> Notes
     Notes {
         unsettled: unsettled as u8,
         unmatched: !matched as u8,
+        readings: 1,
     }
 }
 
@@ -37,5 +51,6 @@ pub fn add(x: Notes, y: Notes) -> Notes
     Notes {
         unsettled: x.unsettled + y.unsettled,
         unmatched: x.unmatched + y.unmatched,
+        readings: x.readings + y.readings,
     }
 }

@@ -5,8 +5,9 @@ use mathlib.Core.List.{List, map, foldr}
 use Prim.Native.Nat.{ℕ, zero, suc, _+_, _/_, _%_}
 use lib.IntN.{ℤ, pos, negsuc, natAbs}
 use lib.Dec.{eqb, leb}
+use lib.ListN.{length}
 use Rattle.cube.proofs.Table.{allUnder}
-use Rattle.notes.specs.Notes.{noNotes}
+use Rattle.notes.specs.Notes.{noNotes, testsOf}
 use Rattle.interior.specs.Interior.{seen}
 use Rattle.tilings.specs.Tilings.{isOneOf, columnsOf}
 use Rattle.tilings.specs.Plan.{Plan, nothing, untiled, tile, ask, Answers, Chosen, tiling, Reached, reach, run}
@@ -26,8 +27,8 @@ reaches code column (ask question p r) = reaches code column p || reaches code c
 abbrev pub reachesAll : List ℕ → Plan → Bool
 reachesAll codes p = foldr _&&_ true (map (λ code. allUnder (columnsOf code) (λ k. reaches code k p)) codes)
 
--- ---- a plan with its answers and the choice that it makes, with nothing counted: the faces that are true, and `yes`, the answer of the case-13 test and of the interior test for an s above 0; for an s
--- below 0 the interior test answers the other way
+-- ---- a plan with its answers, the choice that it makes and the readings: the faces that are true, and `yes`, the answer of the case-13 test and of the interior test for an s above 0; for an s
+-- below 0 the interior test answers the other way. Each of its readings is settled, and each pick has a match
 pub record Test : Type 0 where
   pub plan : Plan
   pub faces : List ℕ
@@ -37,15 +38,15 @@ pub record Test : Type 0 where
 abbrev answers : Test → Answers
 answers t = record {
   faces = λ n. isOneOf (natAbs n) (t .faces);
-  insides = λ ns s. seen (cond (isBelow s) (not (t .yes)) (t .yes)) noNotes;
+  insides = λ ns s. seen (cond (isBelow s) (not (t .yes)) (t .yes)) (testsOf (length ns));
   insides13 = t .yes;
 }
 
 abbrev pub chosenIn : Test → Reached
 chosenIn t = run (answers t) (t .plan) noNotes
 
-abbrev pub test : Plan → List ℕ → Bool → Chosen → Test
-test p faces b x = record { plan = p; faces = faces; yes = b; makes = reach x noNotes }
+abbrev pub test : Plan → List ℕ → Bool → Chosen → ℕ → Test
+test p faces b x readings = record { plan = p; faces = faces; yes = b; makes = reach x (testsOf readings) }
 
 -- code, row and column of a tiling drawn without the centre, and with it
 abbrev pub tiled : ℕ → ℕ → ℕ → Chosen

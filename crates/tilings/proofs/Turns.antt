@@ -1,24 +1,29 @@
 -- Faces asked in turn: where such a plan leads, and three answers as one number. Assumes nothing.
-use mathlib.Core.Path.{_≡_, refl, ap, _∙_}
+use mathlib.Core.Path.{_≡_, sym, ap, _∙_}
 use mathlib.Core.Bool.{Bool, true, false, cond}
 use mathlib.Core.List.{List, [], _∷_, map}
 use Prim.Native.Nat.{ℕ, _+_, _*_, _≤_}
 use native.Mathlib.Omega.{arith}
 use lib.IntN.{ℤ}
+use lib.ListN.{length}
 use Rattle.cube.specs.declared.Cube.{Cube}
 use Rattle.cube.specs.Bits.{bitOf, numberOf}
 use Rattle.face.specs.Face.{faceOf}
 use Rattle.notes.specs.declared.Notes.{Notes}
-use Rattle.tilings.specs.Plan.{Plan, Answers, Reached, run, askInTurn, nothing, tile, untiled, ask}
+use Rattle.notes.specs.Notes.{testsOf, added}
+use Rattle.notes.proofs.Sums.{added-none, tests-added}
+use Rattle.tilings.specs.Plan.{Plan, Answers, Reached, tested, run, askInTurn, nothing, tile, untiled, ask}
 
 module _ (w : Answers) where
-  pub in-turn : (ns : List ℤ) (next : ℕ → Plan) (m : Notes) → run w (askInTurn ns next) m ≡ run w (next (numberOf (map (w .faces) ns))) m
+  -- a test is counted for each face
+  pub in-turn : (ns : List ℤ) (next : ℕ → Plan) (m : Notes) → run w (askInTurn ns next) m ≡ run w (next (numberOf (map (w .faces) ns))) (added m (testsOf (length ns)))
   unfolding run askInTurn numberOf
-  in-turn [] next m = refl
+  in-turn [] next m = ap (run w (next 0)) (sym (added-none m))
   in-turn (n ∷ ns) next m =
-      by-answer (w .faces n) (run w (askInTurn ns (λ k. next (1 + 2 * k))) m) (run w (askInTurn ns (λ k. next (2 * k))) m) next (numberOf (map (w .faces) ns)) m
-      (in-turn ns (λ k. next (1 + 2 * k)) m)
-      (in-turn ns (λ k. next (2 * k)) m)
+      by-answer (w .faces n) (run w (askInTurn ns (λ k. next (1 + 2 * k))) (tested m)) (run w (askInTurn ns (λ k. next (2 * k))) (tested m)) next (numberOf (map (w .faces) ns)) (added (tested m) (testsOf (length ns)))
+      (in-turn ns (λ k. next (1 + 2 * k)) (tested m))
+      (in-turn ns (λ k. next (2 * k)) (tested m))
+      ∙ ap (run w (next (numberOf (map (w .faces) (n ∷ ns))))) (tests-added m 1 (length ns))
     where
       by-answer : (b : Bool) (x y : Reached) (next : ℕ → Plan) (k : ℕ) (m : Notes) → x ≡ run w (next (1 + 2 * k)) m → y ≡ run w (next (2 * k)) m
           → cond b x y ≡ run w (next (bitOf b + 2 * k)) m

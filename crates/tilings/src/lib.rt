@@ -3,13 +3,14 @@
 // cases that ask something share: s (`side`), the ambiguous face (`ambiguous`), three faces asked (`ask_three`).
 ghost use mathlib.Core.Path.{_≡_};
 ghost use mathlib.Core.List.{[], _∷_, map};
-ghost use Prim.Native.Nat.{_≤_};
+ghost use Prim.Native.Nat.{_+_, _≤_};
 ghost use lib.Dec.{T};
 ghost use lib.IntN.{natAbs};
 ghost use Rattle.cube.specs.Bits.{numberOf};
 ghost use Rattle.face.specs.Face.{isFace, faceOf};
-ghost use Rattle.notes.specs.Notes.{noNotes};
+ghost use Rattle.notes.specs.Notes.{noNotes, testsOf};
 ghost use Rattle.interior.specs.Pick.{IsAmbiguousFace};
+ghost use Rattle.interior.specs.Interior.{counted};
 ghost use Rattle.tilings.specs.Tilings.{hasCentre};
 ghost use Rattle.tilings.specs.Plan.{settled, empty, noTiling, tiling, reach};
 ghost use Rattle.tilings.specs.Answers.{reached, sideOf};
@@ -154,18 +155,19 @@ pub fn tile(code: u8, row: u8, column: u8, notes: Notes) -> Counted
     }
 }
 
-// A tiling that is chosen with nothing counted, in a table with one tiling a row.
-pub fn plain(code: u8, row: u8) -> Counted
-    ensures { λ r. ⌜ reached r ≡ reach (tiling code row 0 (hasCentre code)) noNotes ⌝ }
+// A tiling that is chosen by so many face tests alone, in a table with one tiling a row.
+pub fn plain(code: u8, row: u8, tests: u8) -> Counted
+    ensures { λ r. ⌜ reached r ≡ reach (tiling code row 0 (hasCentre code)) (testsOf tests) ⌝ }
 {
-    tile(code, row, 0, notes::none())
+    tile(code, row, 0, notes::tests(tests))
 }
 
-// Where an interior test leads: to a tiling and its row by a yes, to another by a no.
-pub fn settle(found: Sight, yes: u8, row: u8, no: u8, other: u8) -> Counted
-    ensures { λ r. ⌜ reached r ≡ settled found (reach (tiling yes row 0 (hasCentre yes))) (reach (tiling no other 0 (hasCentre no))) noNotes ⌝ }
+// Where an interior test leads after so many face tests: to a tiling and its row by a yes, to another by a no.
+pub fn settle(found: Sight, tests: u8, yes: u8, row: u8, no: u8, other: u8) -> Counted
+    requires { ⌜ tests + counted found ≤ 255 ⌝ }
+    ensures { λ r. ⌜ reached r ≡ settled found (reach (tiling yes row 0 (hasCentre yes))) (reach (tiling no other 0 (hasCentre no))) (testsOf tests) ⌝ }
 {
-    let notes = found.notes;
+    let notes = notes::add(notes::tests(tests), found.notes);
     if found.hit {
         return tile(yes, row, 0, notes);
     }

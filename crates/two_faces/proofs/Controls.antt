@@ -37,19 +37,19 @@ all-reached = tt
 tests : List Test
 tests =
     -- with both faces true s = -7, and a no leads to row 5 - configuration
-    test (plan10 1) (5 ∷ []) true (centred 21 1 0)
-    ∷ test (plan10 1) (6 ∷ []) true (centred 22 1 0)
-    ∷ test (plan10 1) (5 ∷ 6 ∷ []) false (tiled 19 1 0)
-    ∷ test (plan10 1) (5 ∷ 6 ∷ []) true (tiled 20 4 0)
-    ∷ test (plan10 1) [] true (tiled 18 1 0)
-    ∷ test (plan10 1) [] false (tiled 20 1 0)
+    test (plan10 1) (5 ∷ []) true (centred 21 1 0) 2
+    ∷ test (plan10 1) (6 ∷ []) true (centred 22 1 0) 2
+    ∷ test (plan10 1) (5 ∷ 6 ∷ []) false (tiled 19 1 0) 3
+    ∷ test (plan10 1) (5 ∷ 6 ∷ []) true (tiled 20 4 0) 3
+    ∷ test (plan10 1) [] true (tiled 18 1 0) 3
+    ∷ test (plan10 1) [] false (tiled 20 1 0) 3
     -- the same, and row 23 - configuration
-    ∷ test (plan12 3) (6 ∷ []) true (centred 27 3 0)
-    ∷ test (plan12 3) (4 ∷ []) true (centred 28 3 0)
-    ∷ test (plan12 3) (4 ∷ 6 ∷ []) false (tiled 25 3 0)
-    ∷ test (plan12 3) (4 ∷ 6 ∷ []) true (tiled 26 20 0)
-    ∷ test (plan12 3) [] true (tiled 24 3 0)
-    ∷ test (plan12 3) [] false (tiled 26 3 0)
+    ∷ test (plan12 3) (6 ∷ []) true (centred 27 3 0) 2
+    ∷ test (plan12 3) (4 ∷ []) true (centred 28 3 0) 2
+    ∷ test (plan12 3) (4 ∷ 6 ∷ []) false (tiled 25 3 0) 4
+    ∷ test (plan12 3) (4 ∷ 6 ∷ []) true (tiled 26 20 0) 4
+    ∷ test (plan12 3) [] true (tiled 24 3 0) 4
+    ∷ test (plan12 3) [] false (tiled 26 3 0) 4
     ∷ []
 
 tests-hold : map chosenIn tests ≡ map (λ t. t .makes) tests

@@ -27,16 +27,16 @@ pub fn case_10(q: Cube, c: u8) -> Counted
     let first = face_answer(q, face);
     let second = face_answer(q, other);
     if first & !second {
-        return plain(TILING_10_2, c);
+        return plain(TILING_10_2, c, 2);
     }
     if second & !first {
-        return plain(TILING_10_2_, c);
+        return plain(TILING_10_2_, c, 2);
     }
     let found = test_interior(q, ambiguous(face), side(!first));
     if first {
-        return settle(found, TILING_10_1_1_, c, TILING_10_1_2, 5 - c);
+        return settle(found, 2, TILING_10_1_1_, c, TILING_10_1_2, 5 - c);
     }
-    settle(found, TILING_10_1_1, c, TILING_10_1_2, c)
+    settle(found, 2, TILING_10_1_1, c, TILING_10_1_2, c)
 }
 
 const FIRST_12: [[i8; 8]; 3] = [
@@ -62,14 +62,14 @@ pub fn case_12(q: Cube, c: u8) -> Counted
     let first = face_answer(q, face);
     let second = face_answer(q, other);
     if first & !second {
-        return plain(TILING_12_2, c);
+        return plain(TILING_12_2, c, 2);
     }
     if second & !first {
-        return plain(TILING_12_2_, c);
+        return plain(TILING_12_2_, c, 2);
     }
     let found = test_interior_two(q, ambiguous(face), ambiguous(other), side(!first));
     if first {
-        return settle(found, TILING_12_1_1_, c, TILING_12_1_2, 23 - c);
+        return settle(found, 2, TILING_12_1_1_, c, TILING_12_1_2, 23 - c);
     }
-    settle(found, TILING_12_1_1, c, TILING_12_1_2, c)
+    settle(found, 2, TILING_12_1_1, c, TILING_12_1_2, c)
 }

@@ -1,7 +1,7 @@
 -- `family_13::part_13` follows `part13`.
 use mathlib.Core.Path.{_∙_}
 use borrow.Author.Needs.{needs}
-use Rattle.tilings.proofs.Settling.{nothing-counted}
+use Rattle.tilings.proofs.Settling.{counted-so}
 use Rattle.family_13.specs.Tables.{«SUB_CONFIG_13»}
 use Rattle.family_13.specs.Plans.{tile13, parts13, lastFrom, part13}
 use Rattle.family_13.proofs.Runs.{no-tiling, some-tiling}
@@ -26,8 +26,8 @@ index-2-code c = search needs
 cast-untiled : tie.Need-cast-untiled
 cast-untiled c = search needs
 
-none-requires : tie.Need-none-requires
-none-requires c κs = search needs
+tests-requires : tie.Need-tests-requires
+tests-requires c κs = search needs
 
 untiled-requires : tie.Need-untiled-requires
 untiled-requires c κs = search needs
@@ -36,7 +36,7 @@ returns : tie.Need-returns
 unfolding part13 parts13 lastFrom tile13 «SUB_CONFIG_13»
 returns c =
     let c0 = c .before .before in
-    c .untiled .ensures ∙ nothing-counted _ _ (c .before .none .ensures) ∙ no-tiling _ _ _ (c0 .before .before .pre .1) (c0 .if1 .taken)
+    c .untiled .ensures ∙ counted-so _ _ _ (c .before .tests .ensures) ∙ no-tiling _ _ _ (c0 .before .before .pre .1) (c0 .if1 .taken)
 
 cast-tile-13 : tie.Need-cast-tile-13
 cast-tile-13 c = search needs
@@ -70,7 +70,7 @@ part-13-spec =
     index-1-code
     index-2-code
     cast-untiled
-    none-requires
+    tests-requires
     untiled-requires
     returns
     cast-tile-13

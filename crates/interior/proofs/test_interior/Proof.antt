@@ -1,5 +1,6 @@
--- `interior::test_interior` is `insideOf` one face.
+-- `interior::test_interior` is `insideOf` one face, with few counted.
 use borrow.Author.Needs.{needs}
+use Rattle.interior.proofs.Bounds.{with-few}
 use Rattle.interior.proofs.Insides.{seen-at, one-face}
 use Rattle.interior.proofs.test_interior.Statement.{statement}
 use Rattle.interior.proofs.test_interior.Tie as tie
@@ -20,7 +21,7 @@ look-requires : tie.Need-look-requires
 look-requires c κs = search needs
 
 returns : tie.Need-returns
-returns c = search (one-face, seen-at)
+returns c = with-few _ _ _ _ (search (one-face, seen-at))
 
 pub test-interior-spec : {M : Type 1} → statement M
 test-interior-spec =

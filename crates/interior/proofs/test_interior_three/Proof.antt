@@ -1,5 +1,6 @@
--- `interior::test_interior_three` is `insideOf` faces 1, 2 and 5.
+-- `interior::test_interior_three` is `insideOf` faces 1, 2 and 5, with few counted.
 use borrow.Author.Needs.{needs}
+use Rattle.interior.proofs.Bounds.{with-few}
 use Rattle.interior.proofs.Insides.{seen-at, room-for-two, room-for-three, three-faces}
 use Rattle.interior.proofs.test_interior_three.Statement.{statement}
 use Rattle.interior.proofs.test_interior_three.Tie as tie
@@ -55,7 +56,7 @@ returns c =
     let two = seen-at _ _ 2 _ _ _ _ (pick2 .0) (pick2 .1 .1) (c2 .before .moves-of .ensures) (c2 .look .ensures) in
     let five = seen-at _ _ 5 _ _ _ _ (pick5 .0) (pick5 .1 .1) (c1 .before .before .moves-of2 .ensures) (c1 .before .look2 .ensures) in
     let c4 = c3 .before .before .before in
-    three-faces _ _ _ _ (c4 .before .values .ensures) (c4 .diagonals-of .ensures) 1 2 5 _ _ _ _ _ one two five (c1 .join .ensures) (c .join2 .ensures)
+    with-few _ _ _ _ (three-faces _ _ _ _ (c4 .before .values .ensures) (c4 .diagonals-of .ensures) 1 2 5 _ _ _ _ _ one two five (c1 .join .ensures) (c .join2 .ensures))
 
 pub test-interior-three-spec : {M : Type 1} → statement M
 test-interior-three-spec =

@@ -1,5 +1,6 @@
--- `interior::test_interior_two` is `insideOf` two faces.
+-- `interior::test_interior_two` is `insideOf` two faces, with few counted.
 use borrow.Author.Needs.{needs}
+use Rattle.interior.proofs.Bounds.{with-few}
 use Rattle.interior.proofs.Insides.{seen-at, room-for-two, two-faces}
 use Rattle.interior.proofs.test_interior_two.Statement.{statement}
 use Rattle.interior.proofs.test_interior_two.Tie as tie
@@ -40,7 +41,7 @@ returns c =
     let one = seen-at _ _ _ _ _ _ _ (pick .0) (pick .1 .1) (c1 .before .moves-of .ensures) (c1 .look .ensures) in
     let two = seen-at _ _ _ _ _ _ _ (other .0) (other .1 .1) (c .before .before .moves-of2 .ensures) (c .before .look2 .ensures) in
     let c3 = c2 .before .before in
-    two-faces _ _ _ _ (c3 .before .values .ensures) (c3 .diagonals-of .ensures) _ _ _ _ _ one two (c .join .ensures)
+    with-few _ _ _ _ (two-faces _ _ _ _ (c3 .before .values .ensures) (c3 .diagonals-of .ensures) _ _ _ _ _ one two (c .join .ensures))
 
 pub test-interior-two-spec : {M : Type 1} → statement M
 test-interior-two-spec =

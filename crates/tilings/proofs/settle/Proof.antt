@@ -5,17 +5,23 @@ use Rattle.tilings.proofs.Settling.{by-yes, by-no}
 use Rattle.tilings.proofs.settle.Statement.{statement}
 use Rattle.tilings.proofs.settle.Tie as tie
 
+tests-requires : tie.Need-tests-requires
+tests-requires c κs = search needs
+
+add-requires : tie.Need-add-requires
+add-requires c κs = ?
+
 tile-requires : tie.Need-tile-requires
 tile-requires c κs = search needs
 
 returns : tie.Need-returns
-returns c = c .tile .ensures ∙ by-yes _ _ _ (c .before .if1 .taken)
+returns c = ?
 
 tile-requires-2 : tie.Need-tile-requires-2
 tile-requires-2 c κs = search needs
 
 returns-2 : tie.Need-returns-2
-returns-2 c = c .tile2 .ensures ∙ by-no _ _ _ (c .before .if1 .left)
+returns-2 c = ?
 
 pub settle-spec : {M : Type 1} → statement M
-settle-spec = tie.close (tie.spec tile-requires returns tile-requires-2 returns-2)
+settle-spec = tie.close (tie.spec tests-requires add-requires tile-requires returns tile-requires-2 returns-2)

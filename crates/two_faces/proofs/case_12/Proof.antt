@@ -84,7 +84,7 @@ returns-3 c =
     let c0' = c1 .before in
     let c0 = c0' .before .before in
     let h = c0 .before .before .before .before .pre in
-    by-both _ _ _ _ _ _ _ _ _ _ _ _ (twelve _ h) _ _ (c0 .before .face-answer .ensures .0) (c0 .face-answer2 .ensures .0) _ (c0' .before .if1 .left) (c0' .if2 .left) _ (c .before .before .before .side .ensures) _ (two-faces _ _ _ _ (c1 .ambiguous .ensures .0) (c .before .before .before .before .ambiguous2 .ensures .0)) _ (c .before .before .test-interior-two .ensures) (c .before .if3 .taken) (c .settle .ensures)
+    by-both _ _ _ _ _ _ _ _ _ _ _ _ (twelve _ h) _ _ (c0 .before .face-answer .ensures .0) (c0 .face-answer2 .ensures .0) _ (c0' .before .if1 .left) (c0' .if2 .left) _ (c .before .before .before .side .ensures) _ (two-faces _ _ _ _ (c1 .ambiguous .ensures .0) (c .before .before .before .before .ambiguous2 .ensures .0)) _ (c .before .before .test-interior-two .ensures .0) (c .before .if3 .taken) (c .settle .ensures)
 
 settle-requires-2 : tie.Need-settle-requires-2
 settle-requires-2 c κs = search needs
@@ -96,7 +96,7 @@ returns-4 c =
     let c0' = c1 .before in
     let c0 = c0' .before .before in
     let h = c0 .before .before .before .before .pre in
-    by-none _ _ _ _ _ _ _ _ _ _ _ _ (twelve _ h) _ _ (c0 .before .face-answer .ensures .0) (c0 .face-answer2 .ensures .0) _ (c0' .before .if1 .left) (c0' .if2 .left) _ (c .before .before .before .side .ensures) _ (two-faces _ _ _ _ (c1 .ambiguous .ensures .0) (c .before .before .before .before .ambiguous2 .ensures .0)) _ (c .before .before .test-interior-two .ensures) (c .before .if3 .left) (c .settle2 .ensures)
+    by-none _ _ _ _ _ _ _ _ _ _ _ _ (twelve _ h) _ _ (c0 .before .face-answer .ensures .0) (c0 .face-answer2 .ensures .0) _ (c0' .before .if1 .left) (c0' .if2 .left) _ (c .before .before .before .side .ensures) _ (two-faces _ _ _ _ (c1 .ambiguous .ensures .0) (c .before .before .before .before .ambiguous2 .ensures .0)) _ (c .before .before .test-interior-two .ensures .0) (c .before .if3 .left) (c .settle2 .ensures)
 
 pub case-12-spec : {M : Type 1} → statement M
 case-12-spec =

@@ -15,7 +15,7 @@ settle-requires : tie.Need-settle-requires
 settle-requires c κs = search needs
 
 returns : tie.Need-returns
-returns c = c .settle .ensures ∙ four-settled _ _ (c .before .before .before .pre) _ (c .before .before .side .ensures) _ (c .before .test-interior-three .ensures)
+returns c = c .settle .ensures ∙ four-settled _ _ (c .before .before .before .pre) _ (c .before .before .side .ensures) _ (c .before .test-interior-three .ensures .0)
 
 pub case-4-spec : {M : Type 1} → statement M
 case-4-spec =

@@ -48,7 +48,7 @@ unfolding «TEST_6»
 returns-2 c =
     let c0 = c .before .before .before .before in
     let h = c0 .before .before .before .pre in
-    six-settled _ _ h _ (face-6 _ h) _ (c0 .before .face-answer .ensures .0) _ (c0 .if1 .left) _ (c .before .before .before .ambiguous .ensures .0) _ (c .before .before .side .ensures) _ (c .before .test-interior .ensures) (c .settle .ensures)
+    six-settled _ _ h _ (face-6 _ h) _ (c0 .before .face-answer .ensures .0) _ (c0 .if1 .left) _ (c .before .before .before .ambiguous .ensures .0) _ (c .before .before .side .ensures) _ (c .before .test-interior .ensures .0) (c .settle .ensures)
 
 pub case-6-spec : {M : Type 1} → statement M
 case-6-spec =

@@ -2,7 +2,7 @@
 use mathlib.Core.Path.{_∙_}
 use borrow.Author.Needs.{needs}
 use Rattle.families.specs.Plans.{part7}
-use Rattle.tilings.proofs.Settling.{nothing-counted}
+use Rattle.tilings.proofs.Settling.{counted-so}
 use Rattle.families.proofs.Runs.{seven-settled, seven-tabled}
 use Rattle.families.proofs.cases.part_7.Statement.{statement}
 use Rattle.families.proofs.cases.part_7.Tie as tie
@@ -17,7 +17,7 @@ settle-requires : tie.Need-settle-requires
 settle-requires c κs = search needs
 
 returns : tie.Need-returns
-returns c = c .settle .ensures ∙ seven-settled _ _ _ (c .before .before .before .before .pre .0) (c .before .before .before .if1 .taken) _ (c .before .before .side .ensures) _ (c .before .test-interior-three .ensures)
+returns c = c .settle .ensures ∙ seven-settled _ _ _ (c .before .before .before .before .pre .0) (c .before .before .before .if1 .taken) _ (c .before .before .side .ensures) _ (c .before .test-interior-three .ensures .0)
 
 array-read-tile : tie.Need-array-read-tile
 array-read-tile c = search needs
@@ -25,15 +25,15 @@ array-read-tile c = search needs
 array-read-tile-2 : tie.Need-array-read-tile-2
 array-read-tile-2 c = search needs
 
-none-requires : tie.Need-none-requires
-none-requires c κs = search needs
+tests-requires : tie.Need-tests-requires
+tests-requires c κs = search needs
 
 tile-requires : tie.Need-tile-requires
 tile-requires c κs = search needs
 
 returns-2 : tie.Need-returns-2
 unfolding part7
-returns-2 c = c .tile .ensures ∙ nothing-counted _ _ (c .before .none .ensures) ∙ seven-tabled _ _ _ (c .before .before .before .pre .1) (c .before .before .if1 .left)
+returns-2 c = c .tile .ensures ∙ counted-so _ _ _ (c .before .tests .ensures) ∙ seven-tabled _ _ _ (c .before .before .before .pre .1) (c .before .before .if1 .left)
 
 pub part-7-spec : {M : Type 1} → statement M
 part-7-spec =
@@ -45,6 +45,6 @@ part-7-spec =
     returns
     array-read-tile
     array-read-tile-2
-    none-requires
+    tests-requires
     tile-requires
     returns-2)
