@@ -12,7 +12,7 @@ use Rattle.cube.specs.declared.Cube.{Cube}
 use Rattle.cube.specs.Corners.{cornerOf}
 use Rattle.edge.specs.Edge.{Told, Quotients, edgeBy, quotients}
 use Rattle.notes.specs.declared.Notes.{Notes}
-use Rattle.notes.proofs.Bounds.{AtMost, looksOf, at-most-one, at-most-added}
+use Rattle.notes.proofs.Bounds.{AtMost, looksOf, at-most-one, one-more}
 use Rattle.interior.specs.declared.Sight.{Sight}
 use Rattle.interior.specs.Pick.{Picked, pickBy}
 use Rattle.interior.specs.Interior.{isUnsettled, joined, seenAs, lookAt, insideBy, insideOf, counted}
@@ -37,7 +37,7 @@ module _ (K : Numbers) (D : Quotients K) where
   unfolding insideBy joined
   all-bound corner [] s = (lit≤ tt, (lit≤ tt, refl))
   all-bound corner (n ∷ faces) s =
-      at-most-added (lookAt K D corner (pickBy K corner s n) .notes) (insideBy K D corner faces s .notes) (looksOf 1) (looksOf (length faces))
+      one-more (lookAt K D corner (pickBy K corner s n) .notes) (insideBy K D corner faces s .notes) (length faces)
       (one-bound corner (pickBy K corner s n))
       (all-bound corner faces s)
 

@@ -11,7 +11,7 @@ use Rattle.cube.specs.Bits.{bitOf, numberOf}
 use Rattle.face.specs.Face.{faceOf}
 use Rattle.notes.specs.declared.Notes.{Notes}
 use Rattle.notes.specs.Notes.{testsOf, added}
-use Rattle.notes.proofs.Sums.{added-none, tests-added}
+use Rattle.notes.proofs.Sums.{added-none, test-and-tests}
 use Rattle.tilings.specs.Plan.{Plan, Answers, Reached, tested, run, askInTurn, nothing, tile, untiled, ask}
 
 module _ (w : Answers) where
@@ -23,7 +23,7 @@ module _ (w : Answers) where
       by-answer (w .faces n) (run w (askInTurn ns (λ k. next (1 + 2 * k))) (tested m)) (run w (askInTurn ns (λ k. next (2 * k))) (tested m)) next (numberOf (map (w .faces) ns)) (added (tested m) (testsOf (length ns)))
       (in-turn ns (λ k. next (1 + 2 * k)) (tested m))
       (in-turn ns (λ k. next (2 * k)) (tested m))
-      ∙ ap (run w (next (numberOf (map (w .faces) (n ∷ ns))))) (tests-added m 1 (length ns))
+      ∙ ap (run w (next (numberOf (map (w .faces) (n ∷ ns))))) (test-and-tests m (length ns))
     where
       by-answer : (b : Bool) (x y : Reached) (next : ℕ → Plan) (k : ℕ) (m : Notes) → x ≡ run w (next (1 + 2 * k)) m → y ≡ run w (next (2 * k)) m
           → cond b x y ≡ run w (next (bitOf b + 2 * k)) m
