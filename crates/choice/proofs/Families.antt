@@ -167,9 +167,6 @@ module _ (x y : ℤ) (f : Family) (fx : SFits w8 x) (fy : SFits w8 y) (e : kin f
         pub by-plan : b ≡ true → (r : Reached) → r ≡ run (answersOf q) (planOf k c) noNotes → made r ≡ answerOf x y q
         by-plan h r i = ap made i ∙ found true (run (answersOf q) (planOf k c) noNotes) h ∙ by-family (Known k c) s
 
-        pub by-same-plan : b ≡ true → (r t : Reached) → r ≡ run (answersOf q) (planOf k c) noNotes → t ≡ r → made t ≡ answerOf x y q
-        by-same-plan h r t i e = by-plan h t (e ∙ i)
-
         pub by-plan-refused : b ≡ false → Choice.refused 3 ≡ answerOf x y q
         by-plan-refused h = found false (run (answersOf q) (planOf k c) noNotes) h ∙ by-family (Known k c) s
 

@@ -1,7 +1,7 @@
 -- Every choice is in its ranges, and its plan hands on none but known faces and cases and makes one interior test at most. Plans are data: one test computed over all of them says so of where
 -- each leads, and one induction that what a plan leads to is what is chosen, whatever the answers. Assumes nothing.
 use mathlib.Core.Path.{_≡_, refl, subst, sym}
-use mathlib.Core.Bool.{Bool, true, false, cond, _&&_}
+use mathlib.Core.Bool.{Bool, true, false, cond, _&&_, _||_}
 use mathlib.Core.List.{List, [], _∷_, map, foldr}
 use Prim.Native.Nat.{ℕ, zero, suc, _≤_, _<_}
 use native.Mathlib.Nat.{suc-ne-zero, le-trans}
@@ -194,26 +194,59 @@ pub ranges : (x y : ℤ) (q : Cube) → T (saidInRanges (natOf x) (answerOf x y 
 unfolding answerOf refusalOf
 ranges x y q = said-in (natOf x) (isCase x) (isConfiguration (natOf x) y) (allFinite q) (choiceOf x y q) (choice-in x y q)
 
--- ---- unsettled, whatever the case
-abbrev fewEdges : Figures → Bool
-fewEdges f = leb (f .edges) 3
+-- ---- bounds, whatever the case
+module _ (p : Figures → Bool) (t : T (p (figure 0 0 0))) where
+  all-of : (fs : List Figures) (k : ℕ) → T (foldr _&&_ true (map p fs)) → T (p (getD fs k (figure 0 0 0)))
+  all-of [] k h = t
+  all-of (f ∷ fs) zero h = and-l (p f) (foldr _&&_ true (map p fs)) h
+  all-of (f ∷ fs) (suc k) h = all-of fs k (and-r (p f) (foldr _&&_ true (map p fs)) h)
 
-all-few : (fs : List Figures) (k : ℕ) → T (foldr _&&_ true (map fewEdges fs)) → getD fs k (figure 0 0 0) .edges ≤ 3
-all-few [] k h = lit≤ tt
-all-few (f ∷ fs) zero h = leb→le (f .edges) 3 (and-l (fewEdges f) (foldr _&&_ true (map fewEdges fs)) h)
-all-few (f ∷ fs) (suc k) h = all-few fs k (and-r (fewEdges f) (foldr _&&_ true (map fewEdges fs)) h)
+abbrev fewReadings : Figures → Bool
+fewReadings f = leb (f .least) 7 && leb (f .most) 7
 
-few-edges : (case : ℕ) (x : Chosen) → figuresFor case x .edges ≤ 3
+abbrev isSmall : Figures → Bool
+isSmall f = leb (f .edges) 3 && fewReadings f
+
+all-small : (case : ℕ) (x : Chosen) → T (isSmall (figuresFor case x))
 unfolding figures
-few-edges case empty = lit≤ tt
-few-edges case (noTiling c sub) = lit≤ tt
-few-edges case (tiling code row column centre) = all-few figures case tt
+all-small case empty = tt
+all-small case (noTiling c sub) = tt
+all-small case (tiling code row column centre) = all-of isSmall tt figures case tt
 
-pub few-unsettled : (case : ℕ) (r : Reached) → T (inRanges case r) → r .notes .unsettled ≤ 3
-unfolding inRanges
-few-unsettled case r h =
-    let f = figuresFor case (r .choice) in
-    let m = r .notes in
-    let few = leb (m .unsettled) (f .edges) && leb (m .unmatched) (f .edges) in
-    let t = and-l few (isOneOf (m .readings) (f .least ∷ f .most ∷ [])) (and-r (placed case (r .choice)) (within f m) h) in
-    le-trans (leb→le (m .unsettled) (f .edges) (and-l (leb (m .unsettled) (f .edges)) (leb (m .unmatched) (f .edges)) t)) (few-edges case (r .choice))
+either-of : (P : Type 0) (a b : Bool) → (T a → P) → (T b → P) → T (a || (b || false)) → P
+either-of P true b f g t = f tt
+either-of P false true f g t = g tt
+either-of P false false f g t = absurd t
+
+at-most-of : (k a b n : ℕ) → T (isOneOf k (a ∷ b ∷ [])) → T (leb a n && leb b n) → k ≤ n
+at-most-of k a b n t h =
+    either-of (k ≤ n) (eqb k a) (eqb k b)
+    (λ e. subst (λ (j : ℕ). j ≤ n) (sym (eqb→eq k a e)) (leb→le a n (and-l (leb a n) (leb b n) h)))
+    (λ e. subst (λ (j : ℕ). j ≤ n) (sym (eqb→eq k b e)) (leb→le b n (and-r (leb a n) (leb b n) h)))
+    t
+
+module _ (case : ℕ) (r : Reached) (h : T (inRanges case r)) where
+  abbrev f : Figures
+  f = figuresFor case (r .choice)
+
+  abbrev m : Notes
+  m = r .notes
+
+  abbrev few : Bool
+  few = leb (m .unsettled) (f .edges) && leb (m .unmatched) (f .edges)
+
+  counted-within : T (within f m)
+  unfolding inRanges
+  counted-within = and-r (placed case (r .choice)) (within f m) h
+
+  small : T (isSmall f)
+  small = all-small case (r .choice)
+
+  pub few-unsettled : m .unsettled ≤ 3
+  few-unsettled =
+      le-trans
+      (leb→le (m .unsettled) (f .edges) (and-l (leb (m .unsettled) (f .edges)) (leb (m .unmatched) (f .edges)) (and-l few (isOneOf (m .readings) (f .least ∷ f .most ∷ [])) counted-within)))
+      (leb→le (f .edges) 3 (and-l (leb (f .edges) 3) (fewReadings f) small))
+
+  pub few-readings : m .readings ≤ 7
+  few-readings = at-most-of (m .readings) (f .least) (f .most) 7 (and-r few (isOneOf (m .readings) (f .least ∷ f .most ∷ [])) counted-within) (and-r (leb (f .edges) 3) (fewReadings f) small)

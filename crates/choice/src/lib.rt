@@ -17,7 +17,6 @@ ghost use Rattle.choice.specs.Unmatched.{NoneOrAll};
 use cube::Cube;
 use cube::Refusal;
 use cube::Split;
-use tilings::Choice;
 use tilings::Counted;
 
 // What is answered: the choice with what was counted, or why there is none.
@@ -92,29 +91,6 @@ fn family_of(case: i8, configuration: i8) -> Family
     }
 }
 
-// The same choice, its numbers read one by one: by itself the compiler would read the four of a tiling as one word right
-// after they are stored one by one, and wait for them.
-fn same(r: Counted) -> Counted
-    ensures { λ x. ⌜ reached x ≡ reached r ⌝ }
-{
-    let choice = r.choice;
-    let notes = r.notes;
-    match choice {
-        Choice::Empty => Counted {
-            choice: Choice::Empty,
-            notes: notes,
-        },
-        Choice::Untiled(c, sub) => Counted {
-            choice: Choice::Untiled(c, sub),
-            notes: notes,
-        },
-        Choice::Tiled(code, row, column, centre) => Counted {
-            choice: Choice::Tiled(code, row, column, centre),
-            notes: notes,
-        },
-    }
-}
-
 // The choice: refusal 1, 2 or 3 in this order, or what document 01 chooses.
 pub fn handle_cube(case: i8, configuration: i8, q: Cube) -> Answer
     ensures choice { λ r. ⌜ said r ≡ answerOf case configuration q ⌝ }
@@ -133,7 +109,7 @@ pub fn handle_cube(case: i8, configuration: i8, q: Cube) -> Answer
         Family::Known(k, c) => {
             if cube::all_finite(q) {
                 if families::asks(k) {
-                    return Answer::Chosen(same(families::choose(q, k, c)));
+                    return Answer::Chosen(families::choose(q, k, c));
                 }
                 return Answer::Chosen(families::choose_plain(q, k, c));
             }

@@ -15,6 +15,11 @@ use Rattle.mc33_c.specs.declared.Mc33Face.{Mc33Face}
 use Rattle.mc33_c.specs.declared.Mc33Edge.{Mc33Edge}
 use Rattle.mc33_c.specs.declared.Mc33Outcome.{Mc33Outcome}
 
+-- the readings of an answer, none where it is refused
+abbrev pub readingsIn : Said → ℕ
+readingsIn (made r) = r .notes .readings
+readingsIn (refused n) = 0
+
 abbrev pub answered : ℕ → ℕ → ℕ → ℕ → Notes → Mc33Choice
 answered code row column centre m =
     record { refusal = 0; code = code; row = row; column = column; centre = centre; unsettled = m .unsettled; unmatched = m .unmatched; readings = m .readings }

@@ -1,6 +1,7 @@
 // The C interface of the proved crates, for C and Rust to link as a static library. Each function takes
 // numbers and gives document 01's numbers, and promises what the crate's own routine does.
 ghost use mathlib.Core.Path.{_≡_};
+ghost use Prim.Native.Nat.{_≤_};
 ghost use Rattle.root.specs.Root.{rootOf, rootBits};
 ghost use Rattle.root.specs.Nearest.{NearestRoot};
 ghost use Rattle.root.specs.Special.{SpecialRoots, SpecialBits};
@@ -14,7 +15,7 @@ ghost use lib.ListN.{length};
 ghost use Rattle.list.specs.Lists.{resultOf, answersOf};
 ghost use Rattle.list.specs.Results.{result};
 ghost use Rattle.mc33_c.specs.Version.{version};
-ghost use Rattle.mc33_c.specs.Answers.{answered, reachedNumbers, choiceNumbers, faceNumbers, readAs, readingNumbers, edgeNumbers, outcomeNumbers};
+ghost use Rattle.mc33_c.specs.Answers.{readingsIn, answered, reachedNumbers, choiceNumbers, faceNumbers, readAs, readingNumbers, edgeNumbers, outcomeNumbers};
 use choice::Answer;
 use cube::Cube;
 use cube::EdgeNo;
@@ -109,6 +110,7 @@ fn no_choice(why: Refusal) -> Mc33Choice
 }
 
 fn answered(code: u8, row: u8, column: u8, centre: bool, notes: Notes) -> Mc33Choice
+    requires { ⌜ notes .readings ≤ 255 ⌝ }
     ensures { λ r. ⌜ r ≡ answered code row column (bitOf centre) notes ⌝ }
 {
     Mc33Choice {
@@ -119,12 +121,13 @@ fn answered(code: u8, row: u8, column: u8, centre: bool, notes: Notes) -> Mc33Ch
         centre: centre as u8,
         unsettled: notes.unsettled,
         unmatched: notes.unmatched,
-        readings: notes.readings,
+        readings: notes.readings as u8,
     }
 }
 
 // A choice as numbers.
 fn reached_numbers(r: Counted) -> Mc33Choice
+    requires { ⌜ r .notes .readings ≤ 255 ⌝ }
     ensures { λ x. ⌜ x ≡ reachedNumbers (reached r) ⌝ }
 {
     let choice = r.choice;
@@ -137,6 +140,7 @@ fn reached_numbers(r: Counted) -> Mc33Choice
 }
 
 fn choice_numbers(answer: Answer) -> Mc33Choice
+    requires { ⌜ readingsIn (said answer) ≤ 255 ⌝ }
     ensures { λ r. ⌜ r ≡ choiceNumbers (said answer) ⌝ }
 {
     match answer {

@@ -5,11 +5,13 @@ ghost use Prim.Native.Nat.{_+_, _≤_};
 ghost use Rattle.notes.specs.Notes.{noNotes, testsOf, lookOf, added, total};
 
 // Unsettled: the edge readings that are crossed with product zero or blank (document 02, Change 2). Unmatched: the
-// diagonal picks without a match (Change 4). Readings: the face tests, edge readings and case-13 tests (Change 7).
+// diagonal picks without a match (Change 4). Readings: the face tests, edge readings and case-13 tests (Change 7), in
+// sixteen bits: of a choice with three bytes beside it, eight in all, the compiler would make one word, and pack and
+// unpack it.
 pub struct Notes {
     pub unsettled: u8,
     pub unmatched: u8,
-    pub readings: u8,
+    pub readings: u16,
 }
 
 pub fn none() -> Notes
@@ -23,7 +25,7 @@ pub fn none() -> Notes
 }
 
 // What so many face tests count, and likewise case-13 tests.
-pub fn tests(n: u8) -> Notes
+pub fn tests(n: u16) -> Notes
     ensures { λ r. ⌜ r ≡ testsOf n ⌝ }
 {
     Notes {

@@ -156,14 +156,14 @@ pub fn tile(code: u8, row: u8, column: u8, notes: Notes) -> Counted
 }
 
 // A tiling that is chosen by so many face tests alone, in a table with one tiling a row.
-pub fn plain(code: u8, row: u8, tests: u8) -> Counted
+pub fn plain(code: u8, row: u8, tests: u16) -> Counted
     ensures { λ r. ⌜ reached r ≡ reach (tiling code row 0 (hasCentre code)) (testsOf tests) ⌝ }
 {
     tile(code, row, 0, notes::tests(tests))
 }
 
 // Where an interior test leads after so many face tests: to a tiling and its row by a yes, to another by a no.
-pub fn settle(found: Sight, tests: u8, yes: u8, row: u8, no: u8, other: u8) -> Counted
+pub fn settle(found: Sight, tests: u16, yes: u8, row: u8, no: u8, other: u8) -> Counted
     requires { ⌜ tests + counted found ≤ 255 ⌝ }
     ensures { λ r. ⌜ reached r ≡ settled found (reach (tiling yes row 0 (hasCentre yes))) (reach (tiling no other 0 (hasCentre no))) (testsOf tests) ⌝ }
 {

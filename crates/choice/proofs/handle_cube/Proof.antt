@@ -10,7 +10,7 @@ use Rattle.choice.specs.Inner.{InnerNumbers}
 use Rattle.choice.specs.Ranges.{saidInRanges}
 use Rattle.choice.specs.Starred.{StarredCubes}
 use Rattle.choice.specs.Unmatched.{NoneOrAll}
-use Rattle.choice.proofs.Families.{one-of-its, by-nothing, by-nothing-refused, by-plan, by-same-plan, by-plan-refused, by-refusal}
+use Rattle.choice.proofs.Families.{one-of-its, by-nothing, by-nothing-refused, by-plan, by-plan-refused, by-refusal}
 use Rattle.choice.proofs.Inner.{inner-numbers}
 use Rattle.choice.proofs.Ranges.{ranges}
 use Rattle.choice.proofs.Starred.{starred}
@@ -49,11 +49,8 @@ asks-requires c κs = search needs
 choose-requires : tie.Need-choose-requires
 choose-requires c κs = search one-of-its
 
-same-requires : tie.Need-same-requires
-same-requires c κs = search needs
-
 returns-2 : tie.Need-returns-2
-returns-2 c = promised _ _ _ _ (search by-same-plan)
+returns-2 c = promised _ _ _ _ (search by-plan)
 
 choose-plain-requires : tie.Need-choose-plain-requires
 choose-plain-requires c κs = (search one-of-its, sym (c .before .asks .ensures) ∙ c .if3 .left)
@@ -86,7 +83,6 @@ handle-cube-spec =
     all-finite-requires-2
     asks-requires
     choose-requires
-    same-requires
     returns-2
     choose-plain-requires
     returns-3

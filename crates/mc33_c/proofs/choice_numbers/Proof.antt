@@ -1,6 +1,10 @@
 -- `mc33_c::choice_numbers` gives the numbers of an answer.
+use mathlib.Core.Path.{subst}
+use Prim.Native.Nat.{_≤_}
 use borrow.Author.Needs.{needs}
-use Rattle.mc33_c.specs.Answers.{choiceNumbers}
+use Rattle.choice.specs.declared.Answer.{Answer}
+use Rattle.choice.specs.Choice.{said}
+use Rattle.mc33_c.specs.Answers.{readingsIn, choiceNumbers}
 use Rattle.mc33_c.proofs.choice_numbers.Statement.{statement}
 use Rattle.mc33_c.proofs.choice_numbers.Tie as tie
 
@@ -8,7 +12,7 @@ enum-known-answer : tie.Need-enum-known-answer
 enum-known-answer c = search needs
 
 reached-numbers-requires : tie.Need-reached-numbers-requires
-reached-numbers-requires c κs = search needs
+reached-numbers-requires c κs = subst (λ (a : Answer). readingsIn (said a) ≤ 255) (c .before .answer .given .1) (c .before .before .before .pre)
 
 enum-known-answer-2 : tie.Need-enum-known-answer-2
 enum-known-answer-2 c = search needs
