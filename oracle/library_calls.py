@@ -181,7 +181,7 @@ def picks_without_a_match(sampled):
 
 
 def readings_of_a_case(sampled):
-    note("document 02's Change 7: the least and the most readings of cases 6, 7, 10, 12 and 13")
+    note('the least and the most readings of cases 6, 7, 10, 12 and 13')
     for codes, readings in (((10,), 1), ((8, 9), 2), ((11, 12, 13), 3), ((14, 15), 6), ((21, 22), 2), ((18, 19, 20), 3),
                             ((27, 28), 2), ((24, 25, 26), 4), (range(29, 36), 6), ((36,), 7), ((37,), 7)):
         sampled(lambda code, *choice: code in codes and choice[-1] == readings)
