@@ -1,5 +1,5 @@
--- Document 02, 'Change 7': what a choice for each case reads: how many edge readings it makes at most, and how many face tests, edge readings and case-13
--- tests together. Definitions only.
+-- Document 02, 'Change 7': how many edge readings a choice for each case makes at most, and how many readings in all: face tests, edge readings and case-13
+-- tests. Definitions only.
 use Prim.Native.Nat.{ℕ}
 use mathlib.Core.Bool.{Bool, _&&_}
 use mathlib.Core.List.{List, [], _∷_}
@@ -12,7 +12,7 @@ use Rattle.tilings.specs.Plan.{Chosen, empty, noTiling, tiling}
 pub record Figures : Type 0 where
   -- edge readings, at most
   pub edges : ℕ
-  -- all readings: these, or those where an interior test or the case-13 test is made behind the face tests
+  -- readings in all: the least, or the most, where an interior or case-13 test follows the face tests; nothing between
   pub least : ℕ
   pub most : ℕ
 
@@ -59,6 +59,6 @@ figuresFor case empty = none
 figuresFor case (noTiling c sub) = figure 0 6 6
 figuresFor case (tiling code row column centre) = figuresOf case
 
--- no more unsettled than edge readings, no more picks without a match, and as many readings as the figures say
+-- no more unsettled than edge readings, no more picks without a match, and the least readings or the most
 abbrev pub within : Figures → Notes → Bool
 within f m = (leb (m .unsettled) (f .edges) && leb (m .unmatched) (f .edges)) && isOneOf (m .readings) (f .least ∷ f .most ∷ [])

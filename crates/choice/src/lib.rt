@@ -91,7 +91,8 @@ fn family_of(case: i8, configuration: i8) -> Family
     }
 }
 
-// The choice: refusal 1, 2 or 3 in this order, or what document 01 chooses.
+// The choice: refusal 1, 2 or 3 in this order, or what document 01 chooses. Document 02's figures, how many readings a case
+// makes, are part of `ranges`.
 pub fn handle_cube(case: i8, configuration: i8, q: Cube) -> Answer
     ensures choice { λ r. ⌜ said r ≡ answerOf case configuration q ⌝ }
     ensures ranges { λ r. ⌜ T (saidInRanges (natOf case) (said r)) ⌝ }

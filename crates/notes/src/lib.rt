@@ -6,8 +6,8 @@ ghost use Rattle.notes.specs.Notes.{noNotes, testsOf, lookOf, added, tot
 
 // Unsettled: the edge readings that are crossed with product zero or blank (document 02, Change 2). Unmatched: the
 // diagonal picks without a match (Change 4). Readings: the face tests, edge readings and case-13 tests (Change 7), in
-// sixteen bits: of a choice with three bytes beside it, eight in all, the compiler would make one word, and pack and
-// unpack it.
+// sixteen bits: with eight a choice and its counts were eight bytes, of which the compiler makes one word that each way
+// packs and unpacks.
 pub struct Notes {
     pub unsettled: u8,
     pub unmatched: u8,
