@@ -24,7 +24,7 @@ same files "$(cd "$there" && find . ! -type d | sort)" "./include/mc33.h
 same link "$(readlink "$there/lib/libmc33.so")" "libmc33.so.$major"
 same soname "$(readelf -d "$there/lib/libmc33.so" | sed -n 's/.*soname: \[\(.*\)\]/\1/p')" "libmc33.so.$major"
 same functions "$(nm -D --defined-only "$there/lib/libmc33.so" | sed -n 's/.* T //p' | sort)" \
-    "$(grep -o '\bmc33_[a-z_]*(' include/mc33.h | tr -d '(' | sort -u | grep -vE '_text|_name|_configurations')"
+    "$(grep -o '\bmc33_[a-z_]*(' include/mc33.h | tr -d '(' | sort -u | grep -vE '_text|_name|_configurations|_most_readings')"
 export PKG_CONFIG_PATH=$there/lib/pkgconfig
 same version "$(pkg-config --modversion mc33)" "$major.$(part MINOR)"
 same flags "$(pkg-config --cflags --libs mc33 | xargs)" "-I/opt/mc33/include -L/opt/mc33/lib -lmc33"

@@ -78,7 +78,7 @@ impl Choice {
     /// [`Choice::Empty`], 6 for [`Choice::Untiled`]. `None` for a tiling that was read from a row.
     ///
     /// ```
-    /// use mc33::{choose, Choice, Cube};
+    /// use mc33::{choose, Cube};
     /// let tied = Cube([1.0, -1.0, 1.0, -1.0, -1.0, -1.0, -1.0, -1.0]);
     /// assert_eq!(choose(3, 0, tied).map(|choice| choice.readings()), Ok(Some(1)));
     /// let untiled = choose(13, 0, Cube([1.0, 2.0, 1.0, 2.0, 1.0, 4.0, 1.0, 4.0]));
@@ -150,7 +150,8 @@ impl TryFrom<[u8; ROW_BYTES]> for Choice {
 
     fn try_from(row_bytes: [u8; ROW_BYTES]) -> Result<Choice, NotARow> {
         let [code, row, column, last] = row_bytes;
-        choice_of(code, row, column, last % 2, last / 2, None, None).ok_or(NotARow::Bytes(row_bytes))
+        choice_of(code, row, column, last % 2, last / 2, None, None)
+            .ok_or(NotARow::Bytes(row_bytes))
     }
 }
 

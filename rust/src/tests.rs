@@ -89,19 +89,34 @@ fn a_list_keeps_a_number_above_255() {
 #[test]
 fn a_choice_without_a_name_is_refused() {
     let tiling = |choice| match choice {
-        Ok(Choice::Tiled(t)) => ((t.code, t.row, t.column, t.centre), (t.unsettled, t.unmatched, t.readings)),
+        Ok(Choice::Tiled(t)) => (
+            (t.code, t.row, t.column, t.centre),
+            (t.unsettled, t.unmatched, t.readings),
+        ),
         other => panic!("{other:?}"),
     };
-    assert_eq!(tiling(choice_said(PLAIN)), ((4, 1, 2, true), (3, Some(2), Some(7))));
+    assert_eq!(
+        tiling(choice_said(PLAIN)),
+        ((4, 1, 2, true), (3, Some(2), Some(7)))
+    );
     let [mut code, mut centre, mut unsettled, mut unmatched, mut readings] = [PLAIN; 5];
     code.code = 200;
     centre.centre = 2;
     unsettled.unsettled = 4;
     unmatched.unmatched = 4;
     readings.readings = 8;
-    let nothing = Mc33Choice { readings: 1, ..Mc33Choice::default() };
-    let untiled = Mc33Choice { code: 255, readings: 5, ..Mc33Choice::default() };
-    for said in [code, centre, unsettled, unmatched, readings, nothing, untiled] {
+    let nothing = Mc33Choice {
+        readings: 1,
+        ..Mc33Choice::default()
+    };
+    let untiled = Mc33Choice {
+        code: 255,
+        readings: 5,
+        ..Mc33Choice::default()
+    };
+    for said in [
+        code, centre, unsettled, unmatched, readings, nothing, untiled,
+    ] {
         assert_eq!(choice_said(said), Err(NO_NAME));
     }
 }
