@@ -83,7 +83,8 @@ static void counts(void)
     held(choice.unsettled == 3 && choice.unmatched == 0, "all corners 1 in case 4", choice.unsettled);
     choice = mc33_choose(4, 0, unpaired);
     held(choice.unsettled == 0 && choice.unmatched == 3, "corners 2 and 5 in case 4", choice.unmatched);
-    held(choice.readings == 3, "readings of case 4", choice.readings);
+    held(choice.readings == 3 && mc33_most_readings(4) == 3, "readings of case 4", choice.readings);
+    held(mc33_most_readings(-1) == 0 && mc33_most_readings(13) == 7 && mc33_most_readings(15) == 0, "most readings", 13);
     held(sizeof(mc33_choice) == 8, "a choice has 8 bytes", (int)sizeof(mc33_choice));
 }
 
