@@ -84,9 +84,10 @@ typedef struct {
  * The diagonals are the same for every pick, so it is 0 or all of them: 3 in cases 4 and 7, 2 in case 12, 1 in cases 6
  * and 10. Corners 2 and 5 at 1, the others at -1, in case 4: unmatched 3. Rows of a list do not have it.
  *
- * `readings` is how many face tests and edge readings were made for the choice, and one more where the case-13 test was:
- * 1 in case 3, 3 in case 4, 1 or 2 in case 6, 3 or 6 in case 7, 2 or 3 in case 10, 2 or 4 in case 12, 6 or 7 in case 13,
- * 6 where it has no tiling, and 0 in the other cases. mc33_most_readings has the most. Rows do not have it either. */
+ * `readings` is how many face tests and edge readings were made for the choice, and one more where the case-13 test
+ * was: 1 in case 3, 3 in case 4, 1 or 2 in case 6, 3 or 6 in case 7, 2 or 3 in case 10, 2 or 4 in case 12, 6 or 7 in
+ * case 13, 6 where it has no tiling, and 0 in the other cases. mc33_most_readings has the most. Rows do not have it
+ * either. */
 typedef struct {
     uint8_t refusal, code, row, column, centre, unsettled, unmatched, readings;
 } mc33_choice;
