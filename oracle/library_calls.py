@@ -6,9 +6,9 @@
 
 The version is the header's. Choices are document 01's own for its cubes to check by hand, with unsettled as document
 02's Change 2 gives it, no pick without a match and Change 7's figures for the readings, and the Rust's for the cubes of
-mc33's sample, from standard input, held to crates/mc33/stdout. Lists, refusals, face tests, edge readings and roots are worked out here from document 01's
-text. Each operation is made in binary64 and rounded to binary32, which for +, -, ×, / and the root of normal results
-is the same as rounding once.
+mc33's sample, from standard input, held to crates/mc33/stdout. Lists, refusals, face tests, edge readings and roots are
+worked out here from document 01's text. Each operation is made in binary64 and rounded to binary32, which for +, -, ×,
+/ and the root of normal results is the same as rounding once.
 """
 import math
 import pathlib

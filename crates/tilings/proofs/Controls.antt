@@ -33,7 +33,7 @@ answering b = record {
   insides13 = b;
 }
 
--- the readings after these questions
+-- the plan that asks these one after the other, whatever the answers
 abbrev asked : List Question → Plan
 asked qs = foldr (λ w p. ask w p p) (untiled 0 5) qs
 
