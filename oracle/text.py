@@ -37,7 +37,7 @@ ESCAPES = {
     ord("0"): b"\0",
     ord("\\"): b"\\",
     ord("N"): b"case config c0 c1 c2 c3 c4 c5 c6 c7\n",
-    ord("A"): b"code row column centre unsettled\n",
+    ord("A"): b"code row column centre unsettled unmatched readings\n",
     ord("C"): CORNERS,
     ord("L"): b"1" * 100000,
 }

@@ -1,7 +1,7 @@
 // The tables with an entry altered, under the Rust's own text, and the cubes whose answers turn with that.
 use crate::families::{family_of, FAMILIES};
 use crate::met::faces;
-use crate::rust::{self, Altered, Counted, Cube};
+use crate::rust::{self, Altered, Counted, Cube, Numbers};
 use crate::text::sampled_cubes;
 use std::cell::Cell;
 use std::ops::Index;
@@ -162,7 +162,7 @@ fn alterations() -> Vec<Alteration> {
 }
 
 // Whether an answer of this configuration comes from the interior test, and there with both faces true.
-fn inside(configuration: i8, [code, row, ..]: [u8; 5]) -> Option<usize> {
+fn inside(configuration: i8, [code, row, ..]: Numbers) -> Option<usize> {
     match code {
         5 | 6 | 8 | 9 | 14 | 15 | 18 | 24 => Some(INSIDE),
         19 | 25 => Some(INSIDE_BOTH),
@@ -171,9 +171,10 @@ fn inside(configuration: i8, [code, row, ..]: [u8; 5]) -> Option<usize> {
     }
 }
 
-fn turned(cube: &Cube, from: [u8; 5], to: [u8; 5]) -> Option<usize> {
+// An alteration turns an answer in code, row, column, centre or unsettled; other picks and readings alone are no turn.
+fn turned(cube: &Cube, from: Numbers, to: Numbers) -> Option<usize> {
     let [before, after] = [from, to].map(|answer| inside(cube.given[1], answer));
-    (from != to).then(|| before.filter(|_| before == after).unwrap_or(OUTSIDE))
+    (from[..5] != to[..5]).then(|| before.filter(|_| before == after).unwrap_or(OUTSIDE))
 }
 
 // All alterations, by number, and those of each family and of each sub-configuration.
@@ -202,14 +203,14 @@ impl Turns {
     }
 
     // The turn of the answer with an alteration, as a number of its own.
-    fn turn(&mut self, number: usize, cube: &Cube, answer: [u8; 5]) -> Option<usize> {
+    fn turn(&mut self, number: usize, cube: &Cube, answer: Numbers) -> Option<usize> {
         READ.set(self.all[number].entries);
         let altered = self.rust.choice(*cube);
         turned(cube, answer, altered).map(|how| number * HOW.len() + how)
     }
 
     // The turns of the cube's answer with what it reads: its family's row and the entry of its sub-configuration.
-    pub fn met(&mut self, cube: &Cube, answer: [u8; 5], sub_configuration: Option<usize>, meet: impl FnMut(usize)) {
+    pub fn met(&mut self, cube: &Cube, answer: Numbers, sub_configuration: Option<usize>, meet: impl FnMut(usize)) {
         READ.set(&SOURCE);
         assert!(self.rust.choice(*cube) == answer, "the altered copy parts from the others: {:?}", cube.corners);
         let mut read = self.of_family[family_of(cube.given)].clone();
@@ -231,7 +232,7 @@ impl Turns {
 // The cubes of an input of the text program against every alteration, whatever row it is of.
 pub fn altered() -> bool {
     let (cubes, mut turns, mut rust) = (sampled_cubes(), Turns::new(), Counted::new());
-    let answers: Vec<[u8; 5]> = cubes.iter().map(|&cube| rust.choice(cube)).collect();
+    let answers: Vec<Numbers> = cubes.iter().map(|&cube| rust.choice(cube)).collect();
     let mut counts = vec![0; turns.things()];
     for number in 0..turns.all.len() {
         for (cube, &answer) in cubes.iter().zip(&answers) {

@@ -5,6 +5,9 @@ use crate::families::{GIVEN, SUITED};
 use crate::library::{list, Mc33Choice, Mc33Outcome};
 use crate::rust::{Both, Cube};
 
+// Document 02, Change 10.
+pub const ROW_BYTES: usize = 6;
+
 struct Lists {
     corners: Vec<f32>,
     numbers: Vec<i8>,
@@ -31,7 +34,7 @@ fn lists(random: &mut Random) -> Lists {
     let cubes: Vec<Cube> = (0..random.below(100)).map(|_| cube(random)).collect();
     let mut corners: Vec<f32> = cubes.iter().flat_map(|cube| cube.corners).collect();
     let mut numbers: Vec<i8> = cubes.iter().flat_map(|cube| cube.given).collect();
-    let mut answers: Vec<u8> = (0..4 * cubes.len() + random.below(9)).map(|_| random.next() as u8).collect();
+    let mut answers: Vec<u8> = (0..ROW_BYTES * cubes.len() + random.below(9)).map(|_| random.next() as u8).collect();
     match random.below(24) {
         0 => corners.push(1.0),
         1 => drop(corners.pop()),
@@ -42,24 +45,24 @@ fn lists(random: &mut Random) -> Lists {
         _ => (),
     }
     if random.below(16) == 0 {
-        answers.truncate((4 * cubes.len()).saturating_sub(1));
+        answers.truncate((ROW_BYTES * cubes.len()).saturating_sub(1));
     }
     Lists { corners, numbers, answers }
 }
 
-fn bytes(choice: &Mc33Choice) -> [u8; 4] {
-    let Mc33Choice { code, row, column, centre, unsettled, .. } = *choice;
-    [code, row, column, centre + 2 * unsettled]
+fn bytes(choice: &Mc33Choice) -> [u8; ROW_BYTES] {
+    let Mc33Choice { code, row, column, centre, unsettled, unmatched, readings, .. } = *choice;
+    [code, row, column, centre + 2 * unsettled, unmatched, readings]
 }
 
-// Document 01, 'What is refused' and 'List', with the Rust's choices.
+// Document 01, 'What is refused' and 'List', with document 02's rows of the Rust's choices.
 fn expected(lists: &Lists, rust: &mut Both) -> (Mc33Outcome, Vec<u8>) {
     let Lists { corners, numbers, answers } = lists;
     let refused = |refusal: u8, place: usize| (Mc33Outcome { refusal: refusal as u64, place: place as u64 }, answers.clone());
     if corners.len() % 8 != 0 || numbers.len() % 2 != 0 || corners.len() / 8 != numbers.len() / 2 {
         return refused(6, 0);
     }
-    if answers.len() < corners.len() / 2 {
+    if answers.len() < ROW_BYTES * (corners.len() / 8) {
         return refused(7, 0);
     }
     let mut written = Vec::new();

@@ -159,7 +159,7 @@ pub fn handle(rust: &mut Bare, cube: &Cube) {
     rust.handle_cube(Some(*cube));
 }
 
-// The Rust with unsettled counted and the sub-configuration noted, and nothing else; Altered reads the tables of
+// The Rust with what document 02 counts and the sub-configuration noted, and nothing else; Altered reads the tables of
 // altered.rs.
 pub struct Counting<const ALTERED: bool> {
     cube: Cube,
@@ -169,6 +169,9 @@ pub struct Counting<const ALTERED: bool> {
     centre: bool,
     sub_configuration: usize,
     unsettled: Cell<u8>,
+    unmatched: Cell<u8>,
+    matched: Cell<bool>,
+    readings: Cell<u8>,
 }
 
 pub type Counted = Counting<false>;
@@ -184,6 +187,9 @@ impl<const ALTERED: bool> Counting<ALTERED> {
             centre: false,
             sub_configuration: 0,
             unsettled: Cell::new(0),
+            unmatched: Cell::new(0),
+            matched: Cell::new(false),
+            readings: Cell::new(0),
         }
     }
 
@@ -204,15 +210,31 @@ impl<const ALTERED: bool> Counting<ALTERED> {
         self.unsettled.set(self.unsettled.get() + (product == 0.0 || is_nan(product)) as u8);
     }
 
-    fn note_face(&self) {}
+    fn note_call(&self) {
+        self.readings.set(self.readings.get() + 1);
+    }
 
-    fn note_case13(&self) {}
+    fn note_face(&self) {
+        self.note_call();
+    }
 
-    fn note_pick(&self) {}
+    fn note_case13(&self) {
+        self.note_call();
+    }
 
-    fn note_match(&self) {}
+    // A pick is unmatched until its first match.
+    fn note_pick(&self) {
+        self.unmatched.set(self.unmatched.get() + 1);
+        self.matched.set(false);
+    }
 
-    fn note_edge(&self, _: i8) {}
+    fn note_match(&self) {
+        self.unmatched.set(self.unmatched.get() - !self.matched.replace(true) as u8);
+    }
+
+    fn note_edge(&self, _: i8) {
+        self.note_call();
+    }
 
     fn note_t(&self, _: f32) {}
 
@@ -224,21 +246,26 @@ impl<const ALTERED: bool> Counting<ALTERED> {
         self.note = Note::default();
         self.centre = false;
         self.unsettled.set(0);
+        self.unmatched.set(0);
+        self.readings.set(0);
     }
 
-    fn answer(&self) -> [u8; 5] {
+    fn answer(&self) -> Numbers {
         let Note { code, row, column } = self.note;
+        let [unsettled, unmatched, readings] = [&self.unsettled, &self.unmatched, &self.readings].map(Cell::get);
         match code {
-            0 if self.case == 0 => [0; 5],
-            0 => [255, self.config as u8, self.sub_configuration as u8, 0, 0],
-            _ => [code, row, column, self.centre as u8, self.unsettled.get()],
+            0 if self.case == 0 => [0, 0, 0, 0, 0, 0, readings],
+            0 => [255, self.config as u8, self.sub_configuration as u8, 0, 0, 0, readings],
+            _ => [code, row, column, self.centre as u8, unsettled, unmatched, readings],
         }
     }
 }
 
-// Code, row, column, centre and unsettled.
+// Code, row, column, centre, unsettled, unmatched and readings.
+pub type Numbers = [u8; 7];
+
 impl Counted {
-    pub fn choice(&mut self, cube: Cube) -> [u8; 5] {
+    pub fn choice(&mut self, cube: Cube) -> Numbers {
         self.forget();
         self.handle_cube(Some(cube));
         self.answer()
@@ -246,7 +273,7 @@ impl Counted {
 }
 
 impl Altered {
-    pub fn choice(&mut self, cube: Cube) -> [u8; 5] {
+    pub fn choice(&mut self, cube: Cube) -> Numbers {
         self.forget();
         self.handle(cube);
         self.answer()

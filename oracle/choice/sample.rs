@@ -2,6 +2,7 @@
 use crate::altered::Turns;
 use crate::cubes::{Random, REGIMES};
 use crate::families::{family_of, GIVEN, SUITED};
+use crate::library::Mc33Choice;
 use crate::met::{met, wanted, THINGS};
 use crate::rust::{Both, Cube, Noted};
 use crate::text::{input_line, INPUT_NAMES};
@@ -27,7 +28,8 @@ fn sampled(rust: &Noted, turns: &mut Turns, regime: usize) -> Vec<usize> {
     let family_and_code = family_of(rust.cube.given) * 256 + choice.code as usize;
     things.push(OF_FAMILY + family_and_code * 64 + choice.column as usize);
     things.push(OF_REGIME + regime * 15 + rust.case as usize);
-    let answer = [choice.code, choice.row, choice.column, choice.centre, choice.unsettled];
+    let Mc33Choice { code, row, column, centre, unsettled, unmatched, readings, .. } = choice;
+    let answer = [code, row, column, centre, unsettled, unmatched, readings];
     turns.met(&rust.cube, answer, rust.sub_configuration, |turn| things.push(OF_TURN + turn));
     things
 }

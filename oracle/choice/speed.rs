@@ -2,6 +2,7 @@
 use crate::cubes::{free, suited, Random};
 use crate::families::{AMBIGUOUS, CONFIGURATIONS, GIVEN, STARTS, SUITED};
 use crate::library::{choose, list};
+use crate::list::ROW_BYTES;
 use crate::rust::{handle, handle_list, Bare, Cube};
 use std::hint::black_box;
 use std::time::Instant;
@@ -72,13 +73,13 @@ fn time_theirs(cubes: &[Cube], rust: &mut Bare) -> f64 {
 struct Lists {
     corners: Vec<[f32; 8]>,
     numbers: Vec<[i8; 2]>,
-    answers: Vec<[u8; 4]>,
+    answers: Vec<[u8; ROW_BYTES]>,
 }
 
 fn lists(cubes: &[Cube]) -> Lists {
     let corners = cubes.iter().map(|cube| cube.corners).collect();
     let numbers = cubes.iter().map(|cube| cube.given).collect();
-    Lists { corners, numbers, answers: vec![[0; 4]; cubes.len()] }
+    Lists { corners, numbers, answers: vec![[0; ROW_BYTES]; cubes.len()] }
 }
 
 fn time_our_list(lists: &mut Lists) -> f64 {

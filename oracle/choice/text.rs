@@ -6,7 +6,7 @@ use crate::rust::{Both, Counted, Cube};
 use std::io::{stdin, stdout, BufRead, BufReader, BufWriter, Read, Result, Write};
 
 pub const INPUT_NAMES: &[u8] = b"case config c0 c1 c2 c3 c4 c5 c6 c7\n";
-pub const OUTPUT_NAMES: &[u8] = b"code row column centre unsettled\n";
+pub const OUTPUT_NAMES: &[u8] = b"code row column centre unsettled unmatched readings\n";
 
 // In -128..127, without plus, needless zero or -0.
 fn decimal(field: &[u8]) -> Option<i8> {
@@ -91,10 +91,11 @@ fn reply(line: &[u8], number: u64, rust: &mut Counted, text: &mut Vec<u8>) -> st
     if let Some(why) = refusal(&cube) {
         return Err(why);
     }
-    for (place, field) in rust.choice(cube).into_iter().enumerate() {
+    for field in rust.choice(cube) {
         push_number(text, field);
-        text.push(if place < 4 { b' ' } else { b'\n' });
+        text.push(b' ');
     }
+    *text.last_mut().unwrap() = b'\n';
     Ok(())
 }
 

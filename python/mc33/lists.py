@@ -34,7 +34,8 @@ def choose_list(corners: Iterable[float], numbers: Iterable[int], answers: Any =
     """Chooses for a list of cubes: 8 corner values and 2 numbers (case and configuration) a cube.
 
     Gives `answers`, or a new bytearray without them, with a row of ROW bytes a cube: code, row, column,
-    centre + 2 * unsettled. `columns` and `choices` read the rows; bytes past the last cube's stay as they are.
+    centre + 2 * unsettled, unmatched, readings. `columns` and `choices` read the rows; bytes past the last cube's
+    stay as they are.
 
     Contiguous buffers are taken without a copy: corners of f32 (array('f'), numpy float32), flat or (n, 8); numbers
     of i8, flat or (n, 2); answers of u8 that can be written, flat or (n, ROW). Corners and numbers may also be lists

@@ -3,8 +3,8 @@ from __future__ import annotations
 
 from typing import Dict
 
-# The bytes of a cube's row in a list's answers: code, row, column, centre + 2 * unsettled.
-ROW = 4
+# The bytes of a cube's row in a list's answers: code, row, column, centre + 2 * unsettled, unmatched, readings.
+ROW = 6
 
 # Codes that are no tiling.
 EMPTY = 0

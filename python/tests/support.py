@@ -16,7 +16,7 @@ LEVEL = [3, -1, -1, -1, -1, -1, 3, -1]
 UNTILED = [1, 2, 1, 2, 1, 4, 1, 4]
 CORNERS = TIED + LEVEL + UNTILED
 NUMBERS = [3, 0, 4, 0, 13, 0]
-ROWS = bytes([4, 0, 0, 0, 6, 0, 0, 6, 255, 0, 5, 0])
+ROWS = bytes([4, 0, 0, 0, 0, 1, 6, 0, 0, 6, 0, 3, 255, 0, 5, 0, 0, 6])
 
 needs_numpy = unittest.skipUnless(numpy, "numpy is not there")
 

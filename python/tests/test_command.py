@@ -66,7 +66,7 @@ class Done(Command):
             written = (self.folder / "a.npy").read_bytes()
             self.assertEqual((len(written) - len(ROWS)) % 64, 0)
             self.assertTrue(written.endswith(b"\n" + ROWS))
-            self.assertIn(b"{'descr': '|u1', 'fortran_order': False, 'shape': (3, 4), }", written)
+            self.assertIn(b"{'descr': '|u1', 'fortran_order': False, 'shape': (3, 6), }", written)
 
     @needs_numpy
     def test_numpy_reads_and_writes_the_same(self):
@@ -90,7 +90,7 @@ class Done(Command):
         self.assertEqual(self.done("/dev/null", "/dev/null", "-"), b"")
 
     def test_help_and_version(self):
-        for words, *arguments in (b"list", "--help"), (b"corners", "list", "--help"), (b"mc33 4.0.0\n", "--version"):
+        for words, *arguments in (b"list", "--help"), (b"corners", "list", "--help"), (b"mc33 5.0.0\n", "--version"):
             ended = run("-m", "mc33", *arguments, library="/nowhere")
             self.assertEqual((ended.returncode, ended.stderr), (0, b""))
             self.assertIn(words, ended.stdout)

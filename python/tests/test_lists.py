@@ -3,13 +3,14 @@ import ctypes
 import mmap
 import unittest
 from array import array
+from random import Random
 from unittest import mock
 
 import mc33
 from mc33 import lists
 from mc33.library import OutcomeRecord
 
-from .support import CORNERS, LEVEL, NUMBERS, ROWS, TIED, needs_numpy, numpy, run
+from .support import CORNERS, LEVEL, NUMBERS, ROWS, TIED, UNTILED, needs_numpy, numpy, run
 
 # The other thread runs where the call lets it, and not before.
 SHRINK = """
@@ -33,7 +34,7 @@ sys.setswitchinterval(60)
 begun.set()
 rows = mc33.choose_list(*lent)
 thread.join()
-right = rows == bytes([6, 0, 0, 6]) * cubes
+right = rows == bytes([6, 0, 0, 6, 0, 3]) * cubes
 del lent[which][kept:]
 print(told[0], right, len(lent[which]))
 """
@@ -75,6 +76,28 @@ class Held(unittest.TestCase):
     def test_a_refused_list_comes_back_from_a_pool(self):
         ended = run("-c", POOL)
         self.assertEqual((ended.returncode, ended.stdout), (0, b"1 1\n"), ended.stderr)
+
+
+class Chosen(unittest.TestCase):
+    def test_each_byte(self):
+        # These were put to the Rust.
+        for case, configuration, corners, row in (
+                (3, 0, [2, -1, 2, -1, -1, -1, -1, -1], (4, 0, 0, 0, 0, 1)),
+                (3, 0, [1, -2, 1, -2, -1, -1, -1, -1], (3, 0, 0, 0, 0, 1)),
+                (4, 0, LEVEL, (6, 0, 0, 6, 0, 3)),
+                (4, 0, [-1] * 8, (6, 0, 0, 6, 3, 3)),
+                (12, 0, [1] * 8, (26, 23, 0, 4, 2, 4)),
+                (13, 0, UNTILED, (255, 0, 5, 0, 0, 6)),
+                (0, -1, TIED, (0, 0, 0, 0, 0, 0))):
+            with self.subTest(case=case, corners=corners):
+                self.assertEqual(tuple(mc33.choose_list(corners, [case, configuration])), row)
+
+    def test_rows_are_the_single_choices(self):
+        random = Random(3)
+        pairs = [(case, configuration) for case, all_ in mc33.CONFIGURATIONS.items() for configuration in all_]
+        cubes = [[random.choice((-2, -1, 1, 2, 3)) for _ in range(8)] for _ in range(20 * len(pairs))]
+        rows = mc33.choose_list(sum(cubes, []), [number for pair in 20 * pairs for number in pair])
+        self.assertEqual(mc33.choices(rows), [mc33.choose(*pair, cube) for pair, cube in zip(20 * pairs, cubes)])
 
 
 class Taken(unittest.TestCase):
@@ -125,7 +148,7 @@ class Taken(unittest.TestCase):
             self.assertEqual(mc33.choose_list(corners, numbers, bytearray(b"\7")), b"\7")
 
     def test_no_copy_is_made(self):
-        corners, numbers, answers = array("f", CORNERS), array("b", NUMBERS), array("B", bytes(12))
+        corners, numbers, answers = array("f", CORNERS), array("b", NUMBERS), array("B", ROWS)
         wanted = (*corners.buffer_info(), *numbers.buffer_info(), *answers.buffer_info())
         self.assertEqual(self.addresses(corners, numbers, answers), wanted)
         self.assertEqual(self.addresses(*map(memoryview, (corners, numbers, answers))), wanted)
@@ -161,8 +184,8 @@ class Unfit(unittest.TestCase):
         self.unfit(TypeError, "corners .*'B'", bytes(32))
         self.unfit(TypeError, "numbers .*'B'.*i8", numbers=bytes(NUMBERS))
         self.unfit(TypeError, "numbers .*'h'", numbers=array("h", NUMBERS))
-        self.unfit(TypeError, "answers .*'b'.*u8", answers=array("b", bytes(12)))
-        self.unfit(TypeError, "answers .*'f'", answers=array("f", bytes(12)))
+        self.unfit(TypeError, "answers .*'b'.*u8", answers=array("b", bytes(len(ROWS))))
+        self.unfit(TypeError, "answers .*'f'", answers=array("f", bytes(4 * len(ROWS))))
 
     def test_foreign_byte_orders(self):
         self.unfit(TypeError, "corners .*'>f'", (ctypes.c_float.__ctype_be__ * 24)())
@@ -170,35 +193,36 @@ class Unfit(unittest.TestCase):
     def test_strides(self):
         self.unfit(BufferError, "corners .*contiguous", memoryview(array("f", 48 * [1]))[::2])
         self.unfit(BufferError, "numbers .*contiguous", numbers=memoryview(array("b", 12 * [1]))[::2])
-        self.unfit(BufferError, "answers .*contiguous", answers=memoryview(bytearray(24))[::2])
+        self.unfit(BufferError, "answers .*contiguous", answers=memoryview(bytearray(2 * len(ROWS)))[::2])
 
     def test_shapes(self):
-        floats, bytes_ = memoryview(bytes(96)), memoryview(bytearray(12))
+        floats, old = memoryview(bytes(96)), memoryview(bytearray(12))
         self.unfit(ValueError, r"corners .*\(6, 4\).*\(n, 8\)", floats.cast("f", (6, 4)))
         self.unfit(ValueError, r"corners .*\(8, 3\)", floats.cast("f", (8, 3)))
         self.unfit(ValueError, r"corners .*\(1, 3, 8\)", floats.cast("f", (1, 3, 8)))
         self.unfit(ValueError, r"corners .*\(\)", ctypes.c_float(1))
         self.unfit(ValueError, r"numbers .*\(2, 3\).*\(n, 2\)", numbers=memoryview(bytes(6)).cast("b", (2, 3)))
-        self.unfit(ValueError, r"answers .*\(4, 3\)", answers=bytes_.cast("B", (4, 3)))
+        self.unfit(ValueError, r"answers .*\(3, 4\).*\(n, 6\)", answers=old.cast("B", (3, 4)))
 
     def test_odd_addresses(self):
         self.unfit(BufferError, "corners .*multiple of 4", memoryview(bytes(97))[1:].cast("f"))
 
     def test_answers_that_cannot_be_written(self):
-        for answers in (bytes(12), memoryview(bytearray(12)).toreadonly()):
+        for answers in (ROWS, memoryview(bytearray(ROWS)).toreadonly()):
             self.unfit(BufferError, "answers .*read-only", answers=answers)
-        for answers in ([0] * 12, 12, "answers"):
+        for answers in (list(ROWS), len(ROWS), "answers"):
             self.unfit(TypeError, "answers .*no buffer", answers=answers)
 
     def test_answers_that_overlap(self):
-        memory = memoryview(bytearray(96 + 6 + 12))
+        memory = memoryview(bytearray(96 + 6 + len(ROWS)))
         corners, numbers = memory[:96].cast("f"), memory[96:102].cast("b")
-        self.unfit(ValueError, "answers overlap corners", corners, NUMBERS, memory[95:107])
-        self.unfit(ValueError, "answers overlap numbers", corners, numbers, memory[101:113])
+        self.unfit(ValueError, "answers overlap corners", corners, NUMBERS, memory[95:-7])
+        self.unfit(ValueError, "answers overlap numbers", corners, numbers, memory[101:-1])
         self.unfit(ValueError, "answers overlap numbers", corners, numbers, memory[97:98])
         numbers[::2] = memoryview(b"\1\1\1").cast("b")
-        self.assertEqual(bytes(mc33.choose_list(corners, numbers, memory[102:])), b"\1\0\0\0" * 3)
-        self.assertEqual(bytes(mc33.choose_list(corners[3:11], [1, 0], memory[8:12])), b"\1\0\0\0")
+        row = bytes([1, 0, 0, 0, 0, 0])
+        self.assertEqual(bytes(mc33.choose_list(corners, numbers, memory[102:])), 3 * row)
+        self.assertEqual(bytes(mc33.choose_list(corners[3:11], [1, 0], memory[6:12])), row)
 
     def test_values(self):
         self.unfit(TypeError, r"corners\[7\] is 'x', which is no number", TIED[:7] + ["x"])
@@ -220,7 +244,8 @@ class Unfit(unittest.TestCase):
         self.unfit(BufferError, "corners .*contiguous", corners[::2])
         self.unfit(BufferError, "corners .*contiguous", numpy.asfortranarray(corners))
         self.unfit(ValueError, r"corners .*\(8, 3\)", numpy.ones((8, 3), "f4"))
-        self.unfit(ValueError, r"answers .*\(4, 3\)", answers=answers.reshape(4, 3))
+        self.unfit(ValueError, r"answers .*\(6, 3\)", answers=answers.reshape(6, 3))
+        self.unfit(ValueError, r"answers .*\(3, 4\).*\(n, 6\)", answers=numpy.zeros((3, 4), "u1"))
         self.unfit(TypeError, "answers .*'?'", answers=answers.astype(bool))
         self.unfit(ValueError, "answers overlap corners", corners, answers=corners.view("u1").reshape(-1)[90:])
         answers.flags.writeable = False
@@ -228,7 +253,7 @@ class Unfit(unittest.TestCase):
 
 
 class RefusedLists(unittest.TestCase):
-    def refused(self, number, place, corners, numbers, room=12):
+    def refused(self, number, place, corners, numbers, room=len(ROWS)):
         answers = bytearray(b"\7" * room)
         with self.assertRaises(mc33.Refused) as caught:
             mc33.choose_list(corners, numbers, answers)
@@ -243,6 +268,7 @@ class RefusedLists(unittest.TestCase):
         self.refused(6, 0, CORNERS[:-1], NUMBERS)
         self.refused(6, 0, TIED, [3, 0, 4, 0])
         self.refused(7, 0, CORNERS, NUMBERS, len(ROWS) - 1)
+        self.refused(7, 0, CORNERS, NUMBERS, 3 * 4)  # room for the rows of versions before 5.0
 
     def test_a_number_that_is_not_known(self):
         with mock.patch.object(lists, "loaded", lambda: fake_list(12, 3)):

@@ -32,7 +32,7 @@ class Package(unittest.TestCase):
             self.assertTrue(hasattr(mc33, name), name)
         public = {name for name, value in vars(mc33).items() if name[0] != "_" and not inspect.ismodule(value)}
         self.assertEqual(public, set(mc33.__all__))
-        self.assertEqual(mc33.__version__, "4.0.0")
+        self.assertEqual(mc33.__version__, "5.0.0")
 
     def test_hints_and_words(self):
         self.assertTrue((Path(mc33.__file__).parent / "py.typed").exists())

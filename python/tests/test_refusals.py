@@ -16,7 +16,7 @@ class Refusals(unittest.TestCase):
     def test_words(self):
         self.assertEqual(str(mc33.Refused(3, 17)), "cube 17 refused 3: a corner is a NaN or infinite")
         self.assertEqual(str(mc33.Refused(4)), "refused 4: the face number is not -6..-1 or 1..6")
-        self.assertEqual(str(mc33.Refused(7, 0)), "refused 7: the list has fewer than 4 answer bytes a cube")
+        self.assertEqual(str(mc33.Refused(7, 0)), "refused 7: the list has fewer than 6 answer bytes a cube")
 
     def test_a_number_that_is_not_known(self):
         for number in (0, 9, 10, 14, 2**64 - 1):

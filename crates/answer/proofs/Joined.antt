@@ -1,4 +1,4 @@
--- Texts put one after another: five fields, and the line of a refusal. Assumes nothing.
+-- Texts put one after another: the fields of a line, and the line of a refusal. Assumes nothing.
 use mathlib.Core.Path.{_≡_, subst}
 use mathlib.Core.List.{List, [], _∷_, _++_, append-assoc}
 use Prim.Native.Nat.{ℕ, _+_, _≤_, _<_, _^_}
@@ -9,6 +9,7 @@ use Rattle.put.specs.Decimal.{decimal}
 use Rattle.put.proofs.Placed.{placed-after}
 use Rattle.put.proofs.Digits.{decimal-long}
 use Rattle.answer.specs.Answer.{fields, refusedWord, refusedLine}
+use Rattle.answer.specs.Room.{lineRoom, choiceRoom}
 
 -- text put into xs at a place leaves ys, and the place after it
 abbrev pub Put : List ℕ → ℕ → List ℕ → List ℕ → ℕ → Type 0
@@ -34,21 +35,34 @@ field-put xs at n ys i after zs r room ((e, h), p) (f, q) =
     let all = joined xs at (decimal n) ys i (after ∷ []) zs r (omega (arith, f)) (e, p) (f, q) in
     ((all .0, omega (arith, f)), all .1)
 
-pub fields-put : (a b c d e : ℕ) (xs : List ℕ) (at : ℕ) (s : List ℕ) (i : ℕ) (t : List ℕ) (j : ℕ) (u : List ℕ) (k : ℕ) (v : List ℕ) (l : ℕ) (ys : List ℕ) (r : ℕ) → at + 20 ≤ length xs
-    → Field xs at a 32 s i → Field s i b 32 t j → Field t j c 32 u k → Field u k d 32 v l → Field v l e 10 ys r
-    → ((r ≡ at + length (fields a b c d e)) × (r ≤ at + 20)) × (ys ≡ placed xs at (fields a b c d e))
+pub three-put : (a b c : ℕ) (xs : List ℕ) (at : ℕ) (s : List ℕ) (i : ℕ) (t : List ℕ) (j : ℕ) (ys : List ℕ) (r : ℕ) → at + 12 ≤ length xs
+    → Field xs at a 32 s i → Field s i b 32 t j → Field t j c 10 ys r
+    → let text = fields (a ∷ b ∷ c ∷ []) in ((r ≡ at + length text) × (r ≤ at + 12)) × (ys ≡ placed xs at text)
 unfolding fields
-fields-put a b c d e xs at s i t j u k v l ys r room ((e1, h1), p1) ((e2, h2), p2) ((e3, h3), p3) ((e4, h4), p4) ((e5, h5), p5) =
+three-put a b c xs at s i t j ys r room ((e1, h1), p1) ((e2, h2), p2) ((e3, h3), p3) =
+    let text = fields (a ∷ b ∷ c ∷ []) in
+    let two = joined xs at _ s i _ t j (omega arith) (e1, p1) (e2, p2) in
+    let all = joined xs at _ t j _ ys r (omega arith) two (e3, p3) in
+    let line : Put xs at text ys r = subst (λ (text : List ℕ). Put xs at text ys r) (simp append-assoc) all in
+    ((line .0, omega arith), line .1)
+
+-- four more in front
+pub fields-put : (a b c d n : ℕ) (ns xs : List ℕ) (at : ℕ) (s : List ℕ) (i : ℕ) (t : List ℕ) (j : ℕ) (u : List ℕ) (k : ℕ) (v : List ℕ) (l : ℕ) (ys : List ℕ) (r : ℕ) → at + choiceRoom ≤ length xs
+    → Field xs at a 32 s i → Field s i b 32 t j → Field t j c 32 u k → Field u k d 32 v l → ((r ≡ l + length (fields (n ∷ ns))) × (r ≤ l + 12)) × (ys ≡ placed v l (fields (n ∷ ns)))
+    → let text = fields (a ∷ b ∷ c ∷ d ∷ n ∷ ns) in ((r ≡ at + length text) × (r ≤ at + choiceRoom)) × (ys ≡ placed xs at text)
+unfolding fields
+fields-put a b c d n ns xs at s i t j u k v l ys r room ((e1, h1), p1) ((e2, h2), p2) ((e3, h3), p3) ((e4, h4), p4) ((e5, h5), p5) =
+    let text = fields (a ∷ b ∷ c ∷ d ∷ n ∷ ns) in
     let two = joined xs at _ s i _ t j (omega arith) (e1, p1) (e2, p2) in
     let three = joined xs at _ t j _ u k (omega arith) two (e3, p3) in
     let four = joined xs at _ u k _ v l (omega arith) three (e4, p4) in
     let all = joined xs at _ v l _ ys r (omega arith) four (e5, p5) in
-    let line : Put xs at (fields a b c d e) ys r = subst (λ (text : List ℕ). Put xs at text ys r) (simp append-assoc) all in
+    let line : Put xs at text ys r = subst (λ (text : List ℕ). Put xs at text ys r) (simp append-assoc) all in
     ((line .0, omega arith), line .1)
 
-pub refused-put : (why number : ℕ) (xs : List ℕ) (at : ℕ) (s : List ℕ) (i : ℕ) (t : List ℕ) (j : ℕ) (u : List ℕ) (k : ℕ) (ys : List ℕ) (r : ℕ) → at + 64 ≤ length xs → number < 2 ^ 64
+pub refused-put : (why number : ℕ) (xs : List ℕ) (at : ℕ) (s : List ℕ) (i : ℕ) (t : List ℕ) (j : ℕ) (u : List ℕ) (k : ℕ) (ys : List ℕ) (r : ℕ) → at + lineRoom ≤ length xs → number < 2 ^ 64
     → Put xs at refusedWord s i → Field s i why 32 t j → Put t j (decimal number) u k → Put u k (10 ∷ []) ys r
-    → ((r ≡ at + length (refusedLine why number)) × (r ≤ at + 64)) × (ys ≡ placed xs at (refusedLine why number))
+    → ((r ≡ at + length (refusedLine why number)) × (r ≤ at + lineRoom)) × (ys ≡ placed xs at (refusedLine why number))
 unfolding refusedLine refusedWord
 refused-put why number xs at s i t j u k ys r room fits (e1, p1) ((e2, h2), p2) (e3, p3) (e4, p4) =
     let digits = decimal-long number fits in

@@ -17,7 +17,7 @@ use Rattle.line.specs.Line.{given, parsed, parseLine}
 use Rattle.line.proofs.Lengths.{short}
 use Rattle.answer.specs.Answer.{answer, refusal, same, inputNames, outputNames, choiceReply, cubeReply, replyTo}
 use Rattle.answer.proofs.Same.{equal-lengths}
-use Rattle.answer.proofs.Replies.{Answered}
+use Rattle.answer.proofs.Replies.{Answered, ChoiceEnds, LineEnds}
 
 module _ (number : ℕ) (line : List ℕ) where
   module _ (first : number ≤ 1) (named : Bool) (e : named ≡ same line inputNames) where
@@ -51,9 +51,9 @@ module _ (number : ℕ) (line : List ℕ) where
 
     -- a cube's line of the output is shorter than any line that is one
     pub cube-answered : (k c y z : ℤ) (q : Cube) → l ≡ Given k c q → y ≡ k → z ≡ c → (r : Answer) → said r ≡ answerOf y z q
-        → (xs : List ℕ) (at : ℕ) (ys : List ℕ) (i : ℕ) (over : Bool) → Answered number (choiceReply (said r)) 20 xs at ys i over
-        → Answered number (replyTo number line) (length line) xs at ys i over
+        → (xs : List ℕ) (at : ℕ) (ys : List ℕ) (i : ℕ) (over : Bool) → Answered number (choiceReply (said r)) (ChoiceEnds at) xs at ys i over
+        → Answered number (replyTo number line) (LineEnds number (length line) at) xs at ys i over
     cube-answered k c y z q g f h r s xs at ys i over (place, (end, (text, (top, room)))) =
         let reply = cube-reply k c y z q g f h r s in
         let long = given-length k c q (sym e ∙ ap parsed g) in
-        rw reply (place, (end, (text, (top, λ n. let short = room n in omega arith))))
+        rw reply (place, (end, (text, (top, λ n. let short = room n in (omega arith, λ _. omega arith)))))

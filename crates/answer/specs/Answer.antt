@@ -1,12 +1,14 @@
--- Document 01, 'Program': the answer to one line of the input. Definitions only.
+-- Document 01, 'Program', with the seven numbers of document 02, Change 10: the answer to one line of the input. Definitions only.
 use Prim.Native.Nat.{ℕ}
+use mathlib.Core.Path.{_≡_}
 use mathlib.Core.Bool.{Bool, true, false, cond, _&&_}
 use mathlib.Core.List.{List, [], _∷_, _++_}
-use lib.Dec.{eqb, leb}
+use lib.Dec.{T, eqb, leb}
 use Rattle.cube.specs.Bits.{bitOf}
 use Rattle.notes.specs.declared.Notes.{Notes}
-use Rattle.tilings.specs.Plan.{Chosen, empty, noTiling, tiling, Reached}
+use Rattle.tilings.specs.Plan.{Chosen, empty, noTiling, tiling, Reached, reach}
 use Rattle.choice.specs.Choice.{Said, made, refused, answerOf}
+use Rattle.choice.specs.Ranges.{inRanges}
 use Rattle.put.specs.Decimal.{decimal}
 use Rattle.line.specs.Line as Line
 use Rattle.line.specs.Line.{Parsed, given, parseLine}
@@ -19,14 +21,16 @@ inputNames =
     ∷ 99 ∷ 48 ∷ 32 ∷ 99 ∷ 49 ∷ 32 ∷ 99 ∷ 50 ∷ 32 ∷ 99 ∷ 51 ∷ 32
     ∷ 99 ∷ 52 ∷ 32 ∷ 99 ∷ 53 ∷ 32 ∷ 99 ∷ 54 ∷ 32 ∷ 99 ∷ 55 ∷ []
 
--- code row column centre unsettled, and a newline
+-- code row column centre unsettled unmatched readings, and a newline
 unfoldable pub outputNames : List ℕ
 outputNames =
     99 ∷ 111 ∷ 100 ∷ 101 ∷ 32
     ∷ 114 ∷ 111 ∷ 119 ∷ 32
     ∷ 99 ∷ 111 ∷ 108 ∷ 117 ∷ 109 ∷ 110 ∷ 32
     ∷ 99 ∷ 101 ∷ 110 ∷ 116 ∷ 114 ∷ 101 ∷ 32
-    ∷ 117 ∷ 110 ∷ 115 ∷ 101 ∷ 116 ∷ 116 ∷ 108 ∷ 101 ∷ 100 ∷ 10 ∷ []
+    ∷ 117 ∷ 110 ∷ 115 ∷ 101 ∷ 116 ∷ 116 ∷ 108 ∷ 101 ∷ 100 ∷ 32
+    ∷ 117 ∷ 110 ∷ 109 ∷ 97 ∷ 116 ∷ 99 ∷ 104 ∷ 101 ∷ 100 ∷ 32
+    ∷ 114 ∷ 101 ∷ 97 ∷ 100 ∷ 105 ∷ 110 ∷ 103 ∷ 115 ∷ 10 ∷ []
 
 -- refused, and a space
 unfoldable pub refusedWord : List ℕ
@@ -45,18 +49,34 @@ same [] (y ∷ ys) = false
 same (x ∷ xs) [] = false
 same (x ∷ xs) (y ∷ ys) = eqb x y && same xs ys
 
--- five numbers, single spaces, and a newline
-unfoldable pub fields : ℕ → ℕ → ℕ → ℕ → ℕ → List ℕ
-fields a b c d e = decimal a ++ (space ++ (decimal b ++ (space ++ (decimal c ++ (space ++ (decimal d ++ (space ++ (decimal e ++ newline))))))))
+-- numbers, single spaces, and a newline
+unfoldable pub fields : List ℕ → List ℕ
+fields [] = newline
+fields (n ∷ []) = decimal n ++ newline
+fields (n ∷ m ∷ ns) = decimal n ++ (space ++ fields (m ∷ ns))
 
--- fields of a tiling; empty is five zeros; no tiling is 255, configuration, sub-configuration, 0, 0
-abbrev fieldsBy : Chosen → Notes → List ℕ
-fieldsBy empty m = fields 0 0 0 0 0
-fieldsBy (noTiling c sub) m = fields 255 c sub 0 0
-fieldsBy (tiling code row column centre) m = fields code row column (bitOf centre) (m .unsettled)
+-- what was counted
+abbrev pub counts : Notes → List ℕ
+counts m = m .unsettled ∷ m .unmatched ∷ m .readings ∷ []
+
+-- behind four numbers
+abbrev pub numbers : ℕ → ℕ → ℕ → ℕ → Notes → List ℕ
+numbers a b c d m = a ∷ b ∷ c ∷ d ∷ counts m
+
+-- the numbers of a tiling; empty is zeros; no tiling is 255, configuration, sub-configuration, 0; then what was counted
+abbrev numbersBy : Chosen → Notes → List ℕ
+numbersBy empty m = numbers 0 0 0 0 m
+numbersBy (noTiling c sub) m = numbers 255 c sub 0 m
+numbersBy (tiling code row column centre) m = numbers code row column (bitOf centre) m
 
 unfoldable pub choiceLine : Reached → List ℕ
-choiceLine r = fieldsBy (r .choice) (r .notes)
+choiceLine r = fields (numbersBy (r .choice) (r .notes))
+
+-- document 02, Change 10: empty is seven zeros, and no tiling 255 c s 0 0 0 6
+pub record BareLines : Type 0 where
+  pub empties : (case : ℕ) (m : Notes) → T (inRanges case (reach empty m)) → choiceLine (reach empty m) ≡ fields (0 ∷ 0 ∷ 0 ∷ 0 ∷ 0 ∷ 0 ∷ 0 ∷ [])
+  pub untiled : (case c sub : ℕ) (m : Notes) → T (inRanges case (reach (noTiling c sub) m))
+      → choiceLine (reach (noTiling c sub) m) ≡ fields (255 ∷ c ∷ sub ∷ 0 ∷ 0 ∷ 0 ∷ 6 ∷ [])
 
 -- the line for the refusal with this number, at a line of the input; the names line is 1
 unfoldable pub refusedLine : ℕ → ℕ → List ℕ

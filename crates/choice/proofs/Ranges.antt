@@ -29,7 +29,7 @@ use Rattle.family_13.specs.Plans.{parts13, lastFrom, tile13, part13, plan13}
 use Rattle.families.specs.Tables.{«TEST_3», «TEST_4», «TEST_6», «TEST_7»}
 use Rattle.families.specs.Plans.{plan3, plan4, plan6, part7, plan7, plans, planOf}
 use Rattle.families.proofs.Families.{of-a-case}
-use Rattle.choice.specs.Choice.{isCase, isConfiguration, natOf, refusalOf, choiceOf, made, refused, answerOf}
+use Rattle.choice.specs.Choice.{isCase, isConfiguration, natOf, refusalOf, choiceOf, Said, made, refused, readingsIn, answerOf}
 use Rattle.choice.specs.Inner.{handsOn}
 use Rattle.choice.specs.Figures.{Figures, figure, figures, figuresOf, figuresFor, within}
 use Rattle.choice.specs.Ranges.{holdsMinus1, placed, inRanges, saidInRanges}
@@ -250,3 +250,31 @@ module _ (case : ℕ) (r : Reached) (h : T (inRanges case r)) where
 
   pub few-readings : m .readings ≤ 7
   few-readings = at-most-of (m .readings) (f .least) (f .most) 7 (and-r few (isOneOf (m .readings) (f .least ∷ f .most ∷ [])) counted-within) (and-r (leb (f .edges) 3) (fewReadings f) small)
+
+-- of an answer, refused ones among them
+pub few-in : (case : ℕ) (s : Said) → T (saidInRanges case s) → readingsIn s ≤ 7
+unfolding saidInRanges
+few-in case (made r) h = few-readings case r h
+few-in case (refused n) h = lit≤ tt
+
+-- ---- what empty and no tiling count
+one-figure : (n : ℕ) (m : Notes) → T (within (figure 0 n n) m) → m ≡ testsOf n
+one-figure n m h =
+    let few = leb (m .unsettled) 0 && leb (m .unmatched) 0 in
+    let read = isOneOf (m .readings) (n ∷ n ∷ []) in
+    let bound = and-l few read h in
+    let settled = leb→le (m .unsettled) 0 (and-l (leb (m .unsettled) 0) (leb (m .unmatched) 0) bound) in
+    let matched = leb→le (m .unmatched) 0 (and-r (leb (m .unsettled) 0) (leb (m .unmatched) 0) bound) in
+    let none : m .unsettled ≡ 0 = omega arith in
+    let all : m .unmatched ≡ 0 = omega arith in
+    let told : m .readings ≡ n = either-of (m .readings ≡ n) (eqb (m .readings) n) (eqb (m .readings) n) (eqb→eq (m .readings) n) (eqb→eq (m .readings) n) (and-r few read h) in
+    λ j. record { unsettled = none j; unmatched = all j; readings = told j }
+
+module _ (case : ℕ) (m : Notes) where
+  pub empty-counts : T (inRanges case (reach empty m)) → m ≡ noNotes
+  unfolding inRanges
+  empty-counts h = one-figure 0 m (and-r (placed case empty) (within (figure 0 0 0) m) h)
+
+  pub untiled-counts : (c sub : ℕ) → T (inRanges case (reach (noTiling c sub) m)) → m ≡ testsOf 6
+  unfolding inRanges
+  untiled-counts c sub h = one-figure 6 m (and-r (placed case (noTiling c sub)) (within (figure 0 6 6) m) h)

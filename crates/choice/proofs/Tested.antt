@@ -22,11 +22,14 @@ use Rattle.tilings.specs.Answers.{answersOf}
 use Rattle.families.specs.Plans.{planOf}
 use Rattle.choice.specs.Choice.{natOf, refusalOf, choiceOf}
 use Rattle.choice.proofs.Families.{no-plan}
-use Rattle.choice.proofs.Ranges.{passed, choice-in, few-unsettled}
+use Rattle.choice.proofs.Ranges.{passed, choice-in, few-unsettled, few-readings}
 
--- what is chosen leaves few unsettled
-pub with-few : (x y : ℤ) (q : Cube) → refusalOf x y q ≡ 0 → (t : Reached) → t ≡ choiceOf x y q → (t ≡ choiceOf x y q) × (t .notes .unsettled ≤ 3)
-with-few x y q e t i = (i, rw i (few-unsettled (natOf x) (choiceOf x y q) (choice-in x y q e)))
+-- what is chosen leaves few unsettled, and made few readings
+pub with-few : (x y : ℤ) (q : Cube) → refusalOf x y q ≡ 0 → (t : Reached) → t ≡ choiceOf x y q
+    → (t ≡ choiceOf x y q) × ((t .notes .unsettled ≤ 3) × (t .notes .readings ≤ 7))
+with-few x y q e t i =
+    let within = choice-in x y q e in
+    (i, rw i (few-unsettled (natOf x) (choiceOf x y q) within, few-readings (natOf x) (choiceOf x y q) within))
 
 module _ (q : Cube) where
   its-own : (k c : ℕ) → refusalOf (pos k) (pos c) q ≡ 0 → c < getD configurations k 0

@@ -43,6 +43,11 @@ pub data Said : Type 0 where
   made : Reached → Said
   refused : ℕ → Said
 
+-- the readings of an answer, none where it is refused
+abbrev pub readingsIn : Said → ℕ
+readingsIn (made r) = r .notes .readings
+readingsIn (refused n) = 0
+
 unfoldable pub answerOf : ℤ → ℤ → Cube → Said
 answerOf case configuration q =
     let n = refusalOf case configuration q in

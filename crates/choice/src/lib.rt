@@ -144,7 +144,7 @@ pub fn refusal(case: i8, configuration: i8, q: Cube) -> u8
 pub fn choose_tested(case: i8, configuration: i8, q: Cube) -> Counted
     requires { ⌜ refusalOf case configuration q ≡ 0 ⌝ }
     ensures choice { λ r. ⌜ reached r ≡ choiceOf case configuration q ⌝ }
-    ensures few { λ r. ⌜ r .notes .unsettled ≤ 3 ⌝ }
+    ensures few { λ r. ⌜ (r .notes .unsettled ≤ 3) × (r .notes .readings ≤ 7) ⌝ }
 {
     match cube::take_apart(case) {
         Split::NotBelow(n) => match cube::take_apart(configuration) {

@@ -18,7 +18,8 @@ use Rattle.tilings.specs.Plan.{empty, Reached, reach, run}
 use Rattle.families.specs.Plans.{plans, planOf}
 use Rattle.choice.specs.Choice.{refusalOf, choiceOf}
 use Rattle.reader.specs.Reader.{cubeAt}
-use Rattle.list.specs.Lists.{cubes, lengthsAgree, refusalAt, choiceAt, Result, done, firstFrom, resultOf, bytesOf, rowsOf, answersBy, answersOf}
+use Rattle.rows.specs.Rows.{width, refusalAt, choiceAt, bytesOf, Result, done}
+use Rattle.list.specs.Lists.{cubes, lengthsAgree, firstFrom, resultOf, rowsOf, answersBy, answersOf}
 use Rattle.list.specs.Tries.{zeros, empties}
 
 abbrev nought : Cube
@@ -72,14 +73,14 @@ module _ (k : ℕ) where
   none-refused zero i h = refl
   none-refused (suc j) i h = rw (made-at i (omega arith)) (none-refused j (suc i) (omega arith))
 
-  rows-zero : (j : ℕ) → j ≤ k → rowsOf (zeros k) (empties k) j ≡ replicate (4 * j) 0
+  rows-zero : (j : ℕ) → j ≤ k → rowsOf (zeros k) (empties k) j ≡ replicate (width * j) 0
   unfolding rowsOf bytesOf
   rows-zero zero h = refl
   rows-zero (suc j) h =
-      let e : 4 * j + 4 ≡ 4 * suc j = omega arith in
+      let e : width * j + width ≡ width * suc j = omega arith in
       ap (λ (s : Reached). rowsOf (zeros k) (empties k) j ++ bytesOf s) (choice-at j (omega arith))
-      ∙ ap (λ (r : List ℕ). r ++ replicate 4 0) (rows-zero j (omega arith))
-      ∙ replicate-append-replicate (4 * j) 4 0
+      ∙ ap (λ (r : List ℕ). r ++ replicate width 0) (rows-zero j (omega arith))
+      ∙ replicate-append-replicate (width * j) width 0
       ∙ ap (λ (n : ℕ). replicate n 0) e
 
   long : length (zeros k) ≡ 8 * k
@@ -97,24 +98,24 @@ module _ (k : ℕ) where
       let n = numbers-length k in
       rw (eq-eqb (length (zeros k) % 8) 0 (omega arith), eq-eqb (length (empties k) % 2) 0 (omega arith), eq-eqb (cubes (zeros k)) (length (empties k) / 2) (omega arith))
 
-  module _ (ys : List ℕ) (room : 4 * k ≤ length ys) where
-    fits : leb (4 * cubes (zeros k)) (length ys) ≡ true
+  module _ (ys : List ℕ) (room : width * k ≤ length ys) where
+    fits : leb (width * cubes (zeros k)) (length ys) ≡ true
     fits =
         let m = many in
-        le-leb (4 * cubes (zeros k)) (length ys) (omega arith)
+        le-leb (width * cubes (zeros k)) (length ys) (omega arith)
 
     all-done : resultOf (zeros k) (empties k) (length ys) ≡ done
     unfolding resultOf
     all-done = rw (agreed, fits, many) (none-refused k 0 (omega arith))
 
-    all-zero : answersOf (zeros k) (empties k) ys ≡ replicate (4 * k) 0 ++ drop (4 * k) ys
+    all-zero : answersOf (zeros k) (empties k) ys ≡ replicate (width * k) 0 ++ drop (width * k) ys
     unfolding answersOf
     all-zero =
         ap (λ (r : Result). answersBy r (rowsOf (zeros k) (empties k) (cubes (zeros k))) ys) all-done
         ∙ ap (λ (n : ℕ). answersBy done (rowsOf (zeros k) (empties k) n) ys) many
         ∙ ap (λ (rows : List ℕ). answersBy done rows ys) (rows-zero k (omega arith))
-        ∙ ap (λ (n : ℕ). replicate (4 * k) 0 ++ drop n ys) (length-replicate (4 * k) 0)
+        ∙ ap (λ (n : ℕ). replicate (width * k) 0 ++ drop n ys) (length-replicate (width * k) 0)
 
-pub any-number : (k : ℕ) (ys : List ℕ) → 4 * k ≤ length ys
-    → (resultOf (zeros k) (empties k) (length ys) ≡ done) × (answersOf (zeros k) (empties k) ys ≡ replicate (4 * k) 0 ++ drop (4 * k) ys)
+pub any-number : (k : ℕ) (ys : List ℕ) → width * k ≤ length ys
+    → (resultOf (zeros k) (empties k) (length ys) ≡ done) × (answersOf (zeros k) (empties k) ys ≡ replicate (width * k) 0 ++ drop (width * k) ys)
 any-number k ys room = (all-done k ys room, all-zero k ys room)

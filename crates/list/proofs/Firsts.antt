@@ -10,7 +10,8 @@ use lib.Dec.{eqb}
 use lib.IntN.{ℤ}
 use lib.Ieee.{Float}
 use borrow.Author.Tests.{eqb-true, ne-eqb}
-use Rattle.list.specs.Lists.{refusalAt, Result, done, refusedAt, firstFrom}
+use Rattle.rows.specs.Rows.{refusalAt, Result, done, refusedAt}
+use Rattle.list.specs.Lists.{firstFrom}
 
 -- by the number of a cube's refusal, and what the cubes after it come to
 abbrev turn : ℕ → ℕ → Result → Result

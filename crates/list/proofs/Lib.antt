@@ -1,5 +1,4 @@
 mod Controls
-mod Cubes
 mod Empties
 mod Firsts
 mod Outcomes

@@ -12,12 +12,17 @@ use lib.Ieee.{Float}
 use lib.Ieee.Fits.{and-r}
 use borrow.Author.Tests.{not-true, not-false, le-leb, lt-leb}
 use Rattle.put.specs.Placed.{placed}
-use Rattle.list.specs.Lists.{cubes, lengthsAgree, Result, done, refusedAt, firstFrom, resultOf, rowsOf, answersBy, answersOf}
-use Rattle.list.specs.declared.Outcome.{Outcome}
-use Rattle.list.specs.declared.Outcome.the-variants.{Done, Refused}
-use Rattle.list.specs.Results.{result}
+use Rattle.rows.specs.Rows.{width, Result, done, refusedAt}
+use Rattle.rows.specs.declared.Outcome.{Outcome}
+use Rattle.rows.specs.declared.Outcome.the-variants.{Done, Refused}
+use Rattle.rows.specs.Results.{result}
+use Rattle.rows.specs.OldRows.{OldRows, BareRows}
+use Rattle.rows.specs.Parts.{block}
+use Rattle.rows.proofs.Rows.{old-rows, bare-rows}
+use Rattle.list.specs.Lists.{cubes, lengthsAgree, firstFrom, resultOf, rowsOf, answersBy, answersOf, InPlace}
 use Rattle.list.specs.Tries.{ListTries}
 use Rattle.list.proofs.Controls.{tries-hold}
+use Rattle.list.proofs.Rows.{in-place}
 
 module _ (xs : List Float) (ns : List ℤ) where
   -- the tests of refusal 6, as the code makes them
@@ -33,15 +38,15 @@ module _ (xs : List Float) (ns : List ℤ) where
   module _ (ys : List ℕ) where
     -- what `choose_list` promises
     abbrev Promised : Result → List ℕ → Type 0
-    Promised r zs = (r ≡ resultOf xs ns (length ys)) × ((zs ≡ answersOf xs ns ys) × ListTries)
+    Promised r zs = (r ≡ resultOf xs ns (length ys)) × ((zs ≡ answersOf xs ns ys) × (ListTries × (OldRows × (BareRows × (r ≡ done → InPlace xs ns zs)))))
 
     promised : (r : Result) (zs : List ℕ) → r ≡ resultOf xs ns (length ys) → zs ≡ answersBy r (rowsOf xs ns (cubes xs)) ys → Promised r zs
     unfolding answersOf
     promised r zs e f =
-        (e, (f ∙ ap (λ (r : Result). answersBy r (rowsOf xs ns (cubes xs)) ys) e, tries-hold))
+        (e, (f ∙ ap (λ (r : Result). answersBy r (rowsOf xs ns (cubes xs)) ys) e, (tries-hold, (old-rows, (bare-rows, λ d i h. ap (λ (us : List ℕ). block width us i) (f ∙ ap (λ (r : Result). answersBy r (rowsOf xs ns (cubes xs)) ys) d) ∙ in-place xs ns (cubes xs) _ i h)))))
 
     -- by the two tests
-    tested : (b d : Bool) → lengthsAgree xs ns ≡ b → leb (4 * cubes xs) (length ys) ≡ d
+    tested : (b d : Bool) → lengthsAgree xs ns ≡ b → leb (width * cubes xs) (length ys) ≡ d
         → cond b (cond d (firstFrom xs ns (cubes xs) 0) (refusedAt 7 0)) (refusedAt 6 0) ≡ resultOf xs ns (length ys)
     unfolding resultOf
     tested b d e f = rw (sym e, sym f)
@@ -50,19 +55,19 @@ module _ (xs : List Float) (ns : List ℤ) where
     unfolding lengthsAgree
     not-agreed n s e =
         promised (refusedAt n 0) ys
-        (ap (λ (n : ℕ). refusedAt n 0) s ∙ tested false (leb (4 * cubes xs) (length ys)) (not-true (lengthsAgree xs ns) e) refl)
+        (ap (λ (n : ℕ). refusedAt n 0) s ∙ tested false (leb (width * cubes xs) (length ys)) (not-true (lengthsAgree xs ns) e) refl)
         refl
 
     module _ (passed : not agreed ≡ false) where
-      pub no-room : (n : ℕ) → n ≡ 7 → length ys < 4 * cubes xs → Promised (refusedAt n 0) ys
+      pub no-room : (n : ℕ) → n ≡ 7 → length ys < width * cubes xs → Promised (refusedAt n 0) ys
       unfolding lengthsAgree
       no-room n s h =
-          promised (refusedAt n 0) ys (ap (λ (n : ℕ). refusedAt n 0) s ∙ tested true false (not-false (lengthsAgree xs ns) passed) (lt-leb (4 * cubes xs) (length ys) h)) refl
+          promised (refusedAt n 0) ys (ap (λ (n : ℕ). refusedAt n 0) s ∙ tested true false (not-false (lengthsAgree xs ns) passed) (lt-leb (width * cubes xs) (length ys) h)) refl
 
-      module _ (room : 4 * cubes xs ≤ length ys) (o : Outcome) (e : result o ≡ firstFrom xs ns (cubes xs) 0) where
+      module _ (room : width * cubes xs ≤ length ys) (o : Outcome) (e : result o ≡ firstFrom xs ns (cubes xs) 0) where
         first : firstFrom xs ns (cubes xs) 0 ≡ resultOf xs ns (length ys)
         unfolding lengthsAgree
-        first = tested true true (not-false (lengthsAgree xs ns) passed) (le-leb (4 * cubes xs) (length ys) room)
+        first = tested true true (not-false (lengthsAgree xs ns) passed) (le-leb (width * cubes xs) (length ys) room)
 
         pub none-refused : o ≡ Done → firstFrom xs ns (cubes xs) 0 ≡ done
         none-refused f = sym e ∙ ap result f

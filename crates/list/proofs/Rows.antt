@@ -1,78 +1,58 @@
--- Rows of four bytes: a choice's row, a row put by four stores, and one row more. Assumes nothing.
-use mathlib.Core.Path.{_≡_, refl, sym, ap, _∙_}
-use mathlib.Core.Bool.{Bool}
-use mathlib.Core.List.{List, [], _∷_}
-use Prim.Native.Nat.{ℕ, zero, suc, _+_, _*_, _≤_}
+-- Rows one after another. Assumes nothing.
+use mathlib.Core.Path.{_≡_, refl, sym, ap, subst, _∙_}
+use mathlib.Core.List.{List, _++_, append-assoc}
+use Prim.Native.Nat.{ℕ, zero, suc, _+_, _*_, _≤_, _<_}
+use native.Mathlib.Nat.{not-suc-le-zero}
 use native.Mathlib.Numerals.{add-one}
 use native.Mathlib.Omega.{arith}
+use lib.Dec.{ltb}
 use lib.IntN.{ℤ}
-use lib.ListN.{length, set, length-append}
+use lib.ListN.{length, length-append}
 use lib.Ieee.{Float}
-use mir.Val.{boolByte}
-use Rattle.cube.proofs.Bounds.{bit-bound}
-use Rattle.notes.specs.declared.Notes.{Notes}
-use Rattle.tilings.specs.declared.Choice.{Choice}
-use Rattle.tilings.specs.declared.Choice.the-variants.{Tiled}
-use Rattle.tilings.specs.Plan.{Chosen, empty, noTiling, tiling, Reached, reach}
-use Rattle.tilings.specs.Answers.{chosen}
+use borrow.Author.Tests.{ltb-true, ltb-false}
+use borrow.Table.Steps.{cases}
 use Rattle.put.specs.Placed.{placed}
-use Rattle.put.proofs.Placed.{placed-length, placed-after, set-placed, set-after}
-use Rattle.list.specs.Lists.{choiceAt, bytesOf, rowsOf}
-use Rattle.list.specs.declared.Row.{Row}
-use Rattle.list.specs.Results.{bytesIn}
-
--- ---- a choice's row
-module _ (m : Notes) where
-  pub row-as : (r s : Row) → r ≡ s → (x y : Choice) → x ≡ y → bytesIn s ≡ bytesOf (reach (chosen y) m) → bytesIn r ≡ bytesOf (reach (chosen x) m)
-  row-as r s e x y f g = ap bytesIn e ∙ g ∙ ap (λ (x : Choice). bytesOf (reach (chosen x) m)) (sym f)
-
-  pub row-tiled : (r : Row) (code row column : ℕ) (centre : Bool) (x : Choice) → x ≡ Tiled code row column centre
-      → r ≡ record { code = code; row = row; column = column; rest = boolByte centre + 2 * m .unsettled }
-      → bytesIn r ≡ bytesOf (reach (chosen x) m)
-  unfolding bytesOf
-  row-tiled r code row column centre x f e =
-      row-as r (record { code = code; row = row; column = column; rest = boolByte centre + 2 * m .unsettled }) e x (Tiled code row column centre) f
-      (ap (λ (n : ℕ). code ∷ row ∷ column ∷ (n + 2 * m .unsettled) ∷ []) (bit-bound centre .1))
-
--- ---- four stores
-pub four-put : (xs : List ℕ) (at a b c d : ℕ) → at + 4 ≤ length xs
-    → set (set (set (set xs at a) (at + 1) b) (at + 2) c) (at + 3) d ≡ placed xs at (a ∷ b ∷ c ∷ d ∷ [])
-four-put xs at a b c d h =
-    ap (λ (ys : List ℕ). set (set (set ys (at + 1) b) (at + 2) c) (at + 3) d) (set-placed xs at a (omega arith))
-    ∙ ap (λ (ys : List ℕ). set (set ys (at + 2) c) (at + 3) d) (set-after xs at (a ∷ []) (at + 1) b refl (omega arith))
-    ∙ ap (λ (ys : List ℕ). set ys (at + 3) d) (set-after xs at (a ∷ b ∷ []) (at + 2) c refl (omega arith))
-    ∙ set-after xs at (a ∷ b ∷ c ∷ []) (at + 3) d refl (omega arith)
-
--- ---- rows one after another
-four-each : (x : Chosen) (m : Notes) → length (bytesOf (reach x m)) ≡ 4
-unfolding bytesOf
-four-each empty m = refl
-four-each (noTiling c sub) m = refl
-four-each (tiling code row column centre) m = refl
-
-bytes-length : (r : Reached) → length (bytesOf r) ≡ 4
-bytes-length r = four-each (r .choice) (r .notes)
+use Rattle.put.proofs.Placed.{placed-length, placed-after}
+use Rattle.rows.specs.Rows.{width, choiceAt, bytesOf}
+use Rattle.rows.specs.declared.Row.{Row}
+use Rattle.rows.specs.Results.{bytesIn}
+use Rattle.rows.specs.Parts.{block}
+use Rattle.rows.proofs.Parts.{block-append}
+use Rattle.rows.proofs.Rows.{bytes-length}
+use Rattle.list.specs.Lists.{rowsOf}
 
 module _ (xs : List Float) (ns : List ℤ) where
-  pub rows-length : (k : ℕ) → length (rowsOf xs ns k) ≡ 4 * k
+  pub rows-length : (k : ℕ) → length (rowsOf xs ns k) ≡ width * k
   unfolding rowsOf
   rows-length zero = refl
   rows-length (suc k) =
       let l = length-append (rowsOf xs ns k) (bytesOf (choiceAt xs ns k)) in
-      let four = bytes-length (choiceAt xs ns k) in
+      let row = bytes-length (choiceAt xs ns k) in
       let e = rows-length k in
       omega arith
 
+  -- whatever follows them
+  pub in-place : (n : ℕ) (rest : List ℕ) (i : ℕ) → i < n → block width (rowsOf xs ns n ++ rest) i ≡ bytesOf (choiceAt xs ns i)
+  unfolding rowsOf
+  in-place zero rest i h = absurd (not-suc-le-zero h)
+  in-place (suc k) rest i h =
+      let rows = rowsOf xs ns k in
+      let row = bytesOf (choiceAt xs ns k) in
+      ap (λ (ys : List ℕ). block width ys i) (append-assoc rows row rest)
+      ∙ cases (ltb i k)
+      (λ before. in-place k (row ++ rest) i (ltb-true i k before))
+      (λ here. let last = ltb-false i k here in let same : i ≡ k = omega arith in subst (λ (j : ℕ). block width (rows ++ (row ++ rest)) j ≡ bytesOf (choiceAt xs ns j)) (sym same) (block-append width rows row rest k (rows-length k) (bytes-length (choiceAt xs ns k))))
+
   -- a turn of the loop that puts the rows
-  pub rows-again : (before ys zs : List ℕ) (i : ℕ) (r : Row) → 4 * i + 4 ≤ length before → length ys ≡ length before → ys ≡ placed before 0 (rowsOf xs ns i)
-      → bytesIn r ≡ bytesOf (choiceAt xs ns i) → zs ≡ placed ys (4 * i) (bytesIn r)
+  pub rows-again : (before ys zs : List ℕ) (i : ℕ) (r : Row) → width * i + width ≤ length before → length ys ≡ length before → ys ≡ placed before 0 (rowsOf xs ns i)
+      → bytesIn r ≡ bytesOf (choiceAt xs ns i) → zs ≡ placed ys (width * i) (bytesIn r)
       → (length zs ≡ length before) × (zs ≡ placed before 0 (rowsOf xs ns (i + 1)))
   unfolding rowsOf
   rows-again before ys zs i r h long e f g =
       let rows = rows-length i in
-      let four = bytes-length (choiceAt xs ns i) in (
-        ap length g ∙ placed-length ys (4 * i) (bytesIn r) (omega arith) ∙ long,
-        placed-after before 0 (rowsOf xs ns i) ys (4 * i) (bytesOf (choiceAt xs ns i)) zs (omega arith) (omega arith) e (g ∙ ap (placed ys (4 * i)) f)
+      let row = bytes-length (choiceAt xs ns i) in (
+        ap length g ∙ placed-length ys (width * i) (bytesIn r) (omega arith) ∙ long,
+        placed-after before 0 (rowsOf xs ns i) ys (width * i) (bytesOf (choiceAt xs ns i)) zs (omega arith) (omega arith) e (g ∙ ap (placed ys (width * i)) f)
             ∙ ap (λ (k : ℕ). placed before 0 (rowsOf xs ns k)) (sym (add-one i)),
       )
 

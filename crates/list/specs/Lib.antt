@@ -1,3 +1,2 @@
 pub mod Lists
-pub mod Results
 pub mod Tries

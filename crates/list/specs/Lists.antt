@@ -1,15 +1,14 @@
 -- Document 01, 'List' and 'What is refused': a list of cubes, what it comes to, and its answer bytes. Definitions only.
-use Prim.Native.Nat.{ℕ, zero, suc, _+_, _*_, _/_, _%_}
+use Prim.Native.Nat.{ℕ, zero, suc, _*_, _/_, _%_, _<_}
+use mathlib.Core.Path.{_≡_}
 use mathlib.Core.Bool.{Bool, cond, _&&_}
-use mathlib.Core.List.{List, [], _∷_, _++_}
+use mathlib.Core.List.{List, [], _++_}
 use lib.Dec.{eqb, leb}
-use lib.IntN.{ℤ, pos}
-use lib.ListN.{length, getD, drop}
+use lib.IntN.{ℤ}
+use lib.ListN.{length, drop}
 use lib.Ieee.{Float}
-use Rattle.cube.specs.Bits.{bitOf}
-use Rattle.tilings.specs.Plan.{Chosen, empty, noTiling, tiling, Reached}
-use Rattle.choice.specs.Choice.{refusalOf, choiceOf}
-use Rattle.reader.specs.Reader.{cubeAt}
+use Rattle.rows.specs.Rows.{width, refusalAt, choiceAt, bytesOf, Result, done, refusedAt}
+use Rattle.rows.specs.Parts.{block}
 
 -- how many cubes there are, 8 corner values each
 abbrev pub cubes : List Float → ℕ
@@ -19,36 +18,14 @@ cubes xs = length xs / 8
 unfoldable pub lengthsAgree : List Float → List ℤ → Bool
 lengthsAgree xs ns = eqb (length xs % 8) 0 && eqb (length ns % 2) 0 && eqb (cubes xs) (length ns / 2)
 
--- the number of cube i's refusal, 0 where there is none
-unfoldable pub refusalAt : List Float → List ℤ → ℕ → ℕ
-refusalAt xs ns i = refusalOf (getD ns (2 * i) (pos 0)) (getD ns (2 * i + 1) (pos 0)) (cubeAt xs i)
-
--- the choice for cube i
-unfoldable pub choiceAt : List Float → List ℤ → ℕ → Reached
-choiceAt xs ns i = choiceOf (getD ns (2 * i) (pos 0)) (getD ns (2 * i + 1) (pos 0)) (cubeAt xs i)
-
--- done, or the number of a refusal and the place of its cube
-pub data Result : Type 0 where
-  done : Result
-  refusedAt : ℕ → ℕ → Result
-
 -- of k cubes from cube i on, the first that is refused
 unfoldable pub firstFrom : List Float → List ℤ → ℕ → ℕ → Result
 firstFrom xs ns zero i = done
 firstFrom xs ns (suc k) i = let n = refusalAt xs ns i in cond (eqb n 0) (firstFrom xs ns k (suc i)) (refusedAt n i)
 
--- refusal 6, then 7, where there is room for fewer than 4 bytes a cube, then the cubes from the first
+-- refusal 6, then 7, where there is room for fewer bytes than the rows have, then the cubes from the first
 unfoldable pub resultOf : List Float → List ℤ → ℕ → Result
-resultOf xs ns room = cond (lengthsAgree xs ns) (cond (leb (4 * cubes xs) room) (firstFrom xs ns (cubes xs) 0) (refusedAt 7 0)) (refusedAt 6 0)
-
--- the four bytes of a choice
-abbrev bytesBy : Chosen → ℕ → List ℕ
-bytesBy empty unsettled = 0 ∷ 0 ∷ 0 ∷ 0 ∷ []
-bytesBy (noTiling c sub) unsettled = 255 ∷ c ∷ sub ∷ 0 ∷ []
-bytesBy (tiling code row column centre) unsettled = code ∷ row ∷ column ∷ (bitOf centre + 2 * unsettled) ∷ []
-
-unfoldable pub bytesOf : Reached → List ℕ
-bytesOf r = bytesBy (r .choice) (r .notes .unsettled)
+resultOf xs ns room = cond (lengthsAgree xs ns) (cond (leb (width * cubes xs) room) (firstFrom xs ns (cubes xs) 0) (refusedAt 7 0)) (refusedAt 6 0)
 
 -- the bytes of the first k cubes
 unfoldable pub rowsOf : List Float → List ℤ → ℕ → List ℕ
@@ -62,3 +39,7 @@ answersBy (refusedAt n i) rows ys = ys
 
 unfoldable pub answersOf : List Float → List ℤ → List ℕ → List ℕ
 answersOf xs ns ys = answersBy (resultOf xs ns (length ys)) (rowsOf xs ns (cubes xs)) ys
+
+-- each cube's row stands at the cube's place
+abbrev pub InPlace : List Float → List ℤ → List ℕ → Type 0
+InPlace xs ns ys = (i : ℕ) → i < cubes xs → block width ys i ≡ bytesOf (choiceAt xs ns i)

@@ -7,7 +7,8 @@ use lib.IntN.{ℤ, pos, negsuc}
 use lib.ListN.{length, drop, replicate}
 use lib.Ieee.{Float, binary32, ofBits}
 use Rattle.binary32.specs.Numbers.{plusZero}
-use Rattle.list.specs.Lists.{Result, done, refusedAt, resultOf, answersOf}
+use Rattle.rows.specs.Rows.{width, Result, done, refusedAt}
+use Rattle.list.specs.Lists.{resultOf, answersOf}
 
 pub record Try : Type 0 where
   pub corners : List ℕ
@@ -43,12 +44,17 @@ untiled1 = 0xc0000000 ∷ 0xbf800000 ∷ 0xc0000000 ∷ 0xbf800000 ∷ 0xbf80000
 abbrev centred : List ℕ
 centred = 0xc0400000 ∷ 0x40000000 ∷ 0xbf800000 ∷ 0xc0000000 ∷ 0x3f800000 ∷ 0xc0400000 ∷ 0x40400000 ∷ 0xbf800000 ∷ []
 
+-- all 1, unsuited, 12/0: 12_1_2, row 23, unsettled 2, unmatched 2
+abbrev unmatched : List ℕ
+unmatched = 0x3f800000 ∷ 0x3f800000 ∷ 0x3f800000 ∷ 0x3f800000 ∷ 0x3f800000 ∷ 0x3f800000 ∷ 0x3f800000 ∷ 0x3f800000 ∷ []
+
 -- c7 is NaN
 abbrev spoilt : List ℕ
 spoilt = 0xbf800000 ∷ 0xbf800000 ∷ 0xbf800000 ∷ 0xbf800000 ∷ 0xbf800000 ∷ 0xbf800000 ∷ 0xbf800000 ∷ 0x7fc00000 ∷ []
 
-abbrev four : List ℕ
-four = 9 ∷ 9 ∷ 9 ∷ 9 ∷ []
+-- room for a row
+abbrev room : List ℕ
+room = 9 ∷ 9 ∷ 9 ∷ 9 ∷ 9 ∷ 9 ∷ []
 
 abbrev case3 : List ℤ
 case3 = pos 3 ∷ pos 0 ∷ []
@@ -56,23 +62,26 @@ case3 = pos 3 ∷ pos 0 ∷ []
 unfoldable pub tries : List Try
 tries =
     -- one cube; two; and more room than two need
-    try first case3 four done (4 ∷ 0 ∷ 0 ∷ 0 ∷ [])
-    ∷ try (first ++ second) (case3 ++ case3) (four ++ four) done (4 ∷ 0 ∷ 0 ∷ 0 ∷ 3 ∷ 0 ∷ 0 ∷ 0 ∷ [])
-    ∷ try (third ++ first) (pos 4 ∷ pos 0 ∷ pos 0 ∷ negsuc 0 ∷ []) (four ++ four ++ four) done (6 ∷ 0 ∷ 0 ∷ 6 ∷ 0 ∷ 0 ∷ 0 ∷ 0 ∷ four)
-    -- no tiling in either configuration; a row, a column and a centre
-    ∷ try (untiled ++ untiled1 ++ centred) (pos 13 ∷ pos 0 ∷ pos 13 ∷ pos 1 ∷ pos 7 ∷ pos 5 ∷ []) (four ++ four ++ four) done (255 ∷ 0 ∷ 5 ∷ 0 ∷ 255 ∷ 1 ∷ 37 ∷ 0 ∷ 13 ∷ 5 ∷ 2 ∷ 1 ∷ [])
+    try first case3 room done (4 ∷ 0 ∷ 0 ∷ 0 ∷ 0 ∷ 1 ∷ [])
+    ∷ try (first ++ second) (case3 ++ case3) (room ++ room) done (4 ∷ 0 ∷ 0 ∷ 0 ∷ 0 ∷ 1 ∷ 3 ∷ 0 ∷ 0 ∷ 0 ∷ 0 ∷ 1 ∷ [])
+    ∷ try (third ++ first) (pos 4 ∷ pos 0 ∷ pos 0 ∷ negsuc 0 ∷ []) (room ++ room ++ room) done (6 ∷ 0 ∷ 0 ∷ 6 ∷ 0 ∷ 3 ∷ 0 ∷ 0 ∷ 0 ∷ 0 ∷ 0 ∷ 0 ∷ room)
+    -- no tiling in either configuration
+    ∷ try (untiled ++ untiled1) (pos 13 ∷ pos 0 ∷ pos 13 ∷ pos 1 ∷ []) (room ++ room) done (255 ∷ 0 ∷ 5 ∷ 0 ∷ 0 ∷ 6 ∷ 255 ∷ 1 ∷ 37 ∷ 0 ∷ 0 ∷ 6 ∷ [])
+    -- a row, a column and a centre; a row and picks without a match
+    ∷ try (centred ++ unmatched) (pos 7 ∷ pos 5 ∷ pos 12 ∷ pos 0 ∷ []) (room ++ room) done (13 ∷ 5 ∷ 2 ∷ 1 ∷ 0 ∷ 3 ∷ 26 ∷ 23 ∷ 0 ∷ 4 ∷ 2 ∷ 4 ∷ [])
     -- no cubes
-    ∷ try [] [] four done four
+    ∷ try [] [] room done room
     -- the second cube is refused, and the first of two that are
-    ∷ try (first ++ spoilt) (case3 ++ case3) (four ++ four) (refusedAt 3 1) (four ++ four)
-    ∷ try (first ++ spoilt ++ first) (case3 ++ case3 ++ (pos 15 ∷ pos 0 ∷ [])) (four ++ four ++ four) (refusedAt 3 1) (four ++ four ++ four)
+    ∷ try (first ++ spoilt) (case3 ++ case3) (room ++ room) (refusedAt 3 1) (room ++ room)
+    ∷ try (first ++ spoilt ++ first) (case3 ++ case3 ++ (pos 15 ∷ pos 0 ∷ [])) (room ++ room ++ room) (refusedAt 3 1) (room ++ room ++ room)
     -- 6: 8 values and 4 numbers, an odd number of numbers, a value more; and before 7 and 3
-    ∷ try first (case3 ++ case3) four (refusedAt 6 0) four
-    ∷ try first (pos 3 ∷ pos 0 ∷ pos 0 ∷ []) four (refusedAt 6 0) four
-    ∷ try (first ++ (0 ∷ [])) case3 four (refusedAt 6 0) four
+    ∷ try first (case3 ++ case3) room (refusedAt 6 0) room
+    ∷ try first (pos 3 ∷ pos 0 ∷ pos 0 ∷ []) room (refusedAt 6 0) room
+    ∷ try (first ++ (0 ∷ [])) case3 room (refusedAt 6 0) room
     ∷ try spoilt [] [] (refusedAt 6 0) []
-    -- 7: 1 cube and 3 bytes; and before 3
-    ∷ try first case3 (9 ∷ 9 ∷ 9 ∷ []) (refusedAt 7 0) (9 ∷ 9 ∷ 9 ∷ [])
+    -- 7: 1 cube and 5 bytes, or the 4 of an old row; and before 3
+    ∷ try first case3 (9 ∷ 9 ∷ 9 ∷ 9 ∷ 9 ∷ []) (refusedAt 7 0) (9 ∷ 9 ∷ 9 ∷ 9 ∷ 9 ∷ [])
+    ∷ try first case3 (9 ∷ 9 ∷ 9 ∷ 9 ∷ []) (refusedAt 7 0) (9 ∷ 9 ∷ 9 ∷ 9 ∷ [])
     ∷ try spoilt case3 [] (refusedAt 7 0) []
     ∷ []
 
@@ -91,5 +100,5 @@ pub record ListTries : Type 0 where
   pub outcomes : map (λ t. resultOf (values t) (t .numbers) (length (t .answers))) tries ≡ map (λ t. t .says) tries
   pub answers : map (λ t. answersOf (values t) (t .numbers) (t .answers)) tries ≡ map (λ t. t .leaves) tries
   -- however many cubes there are: empty ones, in as much room as they need or more
-  pub anyNumber : (k : ℕ) (ys : List ℕ) → 4 * k ≤ length ys
-      → (resultOf (zeros k) (empties k) (length ys) ≡ done) × (answersOf (zeros k) (empties k) ys ≡ replicate (4 * k) 0 ++ drop (4 * k) ys)
+  pub anyNumber : (k : ℕ) (ys : List ℕ) → width * k ≤ length ys
+      → (resultOf (zeros k) (empties k) (length ys) ≡ done) × (answersOf (zeros k) (empties k) ys ≡ replicate (width * k) 0 ++ drop (width * k) ys)

@@ -8,7 +8,8 @@ ghost use mathlib.Core.Bool.{cond};
 ghost use Prim.Native.Nat.{_+_, _≤_};
 ghost use lib.Dec.{eqb};
 ghost use lib.ListN.{length, take};
-ghost use Rattle.text.specs.Block.{blockOf};
+ghost use Rattle.answer.specs.Room.{lineRoom};
+ghost use Rattle.text.specs.Block.{blockRoom, blockOf};
 ghost use Rattle.mc33.specs.declared.Failure.{Failure};
 ghost use Rattle.mc33.specs.Kept.{empty, failure, comesTo, RefusedAt, Rooms, Kept};
 ghost use Rattle.mc33.specs.Kept.{Counted, Ended, Told, Turned};
@@ -110,7 +111,7 @@ fn tell_refused(wrote: bool, line: u64, number: u64, input: &[u8], ended: bool)
 
 // Answers the n bytes that there are: what is kept is what their block leaves.
 fn answer(number: u64, buf: &mut [u8], n: usize, out: &mut [u8]) -> State
-    requires { ⌜ (n ≤ 65536) × ((n ≤ length (now buf)) × (n + 64 ≤ length (now out))) ⌝ }
+    requires { ⌜ (n ≤ 65536) × ((n ≤ length (now buf)) × (n + blockRoom ≤ length (now out))) ⌝ }
     ensures have { λ r. ⌜ r .have ≤ 81 ⌝ }
     ensures kept { λ r. ⌜ Counted number r (Kept r (now (buf .exit)) (now (out .exit)) (blockOf number (take n (now (buf .entry))))) ⌝ }
 {
@@ -137,7 +138,7 @@ fn answer(number: u64, buf: &mut [u8], n: usize, out: &mut [u8]) -> State
 
 // The input's end: answers it and stops.
 fn finish(number: u64, part: &[u8], out: &mut [u8]) -> State
-    requires { ⌜ 64 ≤ length (now out) ⌝ }
+    requires { ⌜ lineRoom ≤ length (now out) ⌝ }
     ensures have { λ r. ⌜ r .have ≤ 81 ⌝ }
     ensures ended { λ r. ⌜ Ended number (now (part .entry)) r (now (out .exit)) ⌝ }
 {

@@ -10,7 +10,7 @@ use Rattle.edge.specs.Edge as Edge
 use Rattle.notes.specs.Notes.{noNotes, testsOf}
 use Rattle.tilings.specs.Plan.{empty, noTiling, tiling, reach}
 use Rattle.choice.specs.Choice.{made, refused}
-use Rattle.list.specs.Lists.{done, refusedAt}
+use Rattle.rows.specs.Rows.{done, refusedAt}
 use Rattle.mc33_c.specs.Answers.{reachedNumbers, choiceNumbers, faceNumbers, readingNumbers, edgeNumbers, outcomeNumbers}
 
 choices : map choiceNumbers

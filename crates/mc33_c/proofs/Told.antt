@@ -1,10 +1,8 @@
 -- The answers as numbers, from each case of the code's own answers. Assumes nothing.
 use mathlib.Core.Path.{_≡_, sym, ap}
 use mathlib.Core.Bool.{Bool}
-use Prim.Native.Nat.{ℕ, _≤_}
-use native.Mathlib.Nat.{le-trans}
+use Prim.Native.Nat.{ℕ}
 use lib.IntN.{ℤ}
-use lib.Dec.{T, lit≤}
 use lib.Ieee.{binary32, ofBits}
 use mir.Val.{boolByte}
 use Rattle.cube.specs.declared.Cube.{Cube}
@@ -23,21 +21,13 @@ use Rattle.edge.specs.Edge.{told, edgeReadingOf}
 use Rattle.notes.specs.declared.Notes.{Notes}
 use Rattle.choice.specs.declared.Answer.{Answer}
 use Rattle.choice.specs.Choice as Choice
-use Rattle.choice.specs.Choice.{Said, made, refused, answerOf}
-use Rattle.choice.specs.Ranges.{saidInRanges}
-use Rattle.choice.proofs.Ranges.{few-readings}
-use Rattle.list.specs.declared.Outcome.{Outcome}
-use Rattle.list.specs.declared.Outcome.the-variants as List
-use Rattle.list.specs.Results.{result}
+use Rattle.choice.specs.Choice.{refused, answerOf}
+use Rattle.rows.specs.declared.Outcome.{Outcome}
+use Rattle.rows.specs.declared.Outcome.the-variants as List
+use Rattle.rows.specs.Results.{result}
 use Rattle.mc33_c.specs.declared.Mc33Choice.{Mc33Choice}
 use Rattle.mc33_c.specs.declared.Mc33Edge.{Mc33Edge}
-use Rattle.mc33_c.specs.Answers.{readingsIn, answered, choiceNumbers, faceNumbers, readingNumbers, edgeNumbers, outcomeNumbers}
-
--- the readings of an answer are a byte
-pub few-in : (case : ℕ) (s : Said) → T (saidInRanges case s) → readingsIn s ≤ 255
-unfolding saidInRanges
-few-in case (made r) h = le-trans (few-readings case r h) (lit≤ tt)
-few-in case (refused n) h = lit≤ tt
+use Rattle.mc33_c.specs.Answers.{answered, choiceNumbers, faceNumbers, readingNumbers, edgeNumbers, outcomeNumbers}
 
 pub filled : (code row column : ℕ) (centre : Bool) (m : Notes)
     → record { refusal = 0; code = code; row = row; column = column; centre = boolByte centre; unsettled = m .unsettled; unmatched = m .unmatched; readings = m .readings } ≡ answered code row column (bitOf centre) m

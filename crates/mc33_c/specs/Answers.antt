@@ -9,16 +9,11 @@ use Rattle.edge.specs.Edge as Edge
 use Rattle.notes.specs.declared.Notes.{Notes}
 use Rattle.tilings.specs.Plan.{Chosen, empty, noTiling, tiling, Reached}
 use Rattle.choice.specs.Choice.{Said, made, refused}
-use Rattle.list.specs.Lists.{Result, done, refusedAt}
+use Rattle.rows.specs.Rows.{Result, done, refusedAt}
 use Rattle.mc33_c.specs.declared.Mc33Choice.{Mc33Choice}
 use Rattle.mc33_c.specs.declared.Mc33Face.{Mc33Face}
 use Rattle.mc33_c.specs.declared.Mc33Edge.{Mc33Edge}
 use Rattle.mc33_c.specs.declared.Mc33Outcome.{Mc33Outcome}
-
--- the readings of an answer, none where it is refused
-abbrev pub readingsIn : Said → ℕ
-readingsIn (made r) = r .notes .readings
-readingsIn (refused n) = 0
 
 abbrev pub answered : ℕ → ℕ → ℕ → ℕ → Notes → Mc33Choice
 answered code row column centre m =

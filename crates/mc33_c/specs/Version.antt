@@ -3,7 +3,7 @@ use Prim.Native.Nat.{ℕ, _+_, _*_}
 
 -- moves where a caller that was built before would read something wrongly or no longer build
 abbrev pub major : ℕ
-major = 4
+major = 5
 
 -- moves where something is added: a function, a refusal, a kind of reading to what is counted
 abbrev pub minor : ℕ

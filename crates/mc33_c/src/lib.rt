@@ -10,12 +10,12 @@ ghost use Rattle.edge.specs.Edge.{told, edgeReadingOf};
 ghost use Rattle.cube.specs.Bits.{bitOf};
 ghost use Rattle.cube.specs.Refusals.{refusalNumber};
 ghost use Rattle.tilings.specs.Answers.{reached};
-ghost use Rattle.choice.specs.Choice.{refused, answerOf, said};
+ghost use Rattle.choice.specs.Choice.{refused, readingsIn, answerOf, said};
 ghost use lib.ListN.{length};
+ghost use Rattle.rows.specs.Results.{result};
 ghost use Rattle.list.specs.Lists.{resultOf, answersOf};
-ghost use Rattle.list.specs.Results.{result};
 ghost use Rattle.mc33_c.specs.Version.{version};
-ghost use Rattle.mc33_c.specs.Answers.{readingsIn, answered, reachedNumbers, choiceNumbers, faceNumbers, readAs, readingNumbers, edgeNumbers, outcomeNumbers};
+ghost use Rattle.mc33_c.specs.Answers.{answered, reachedNumbers, choiceNumbers, faceNumbers, readAs, readingNumbers, edgeNumbers, outcomeNumbers};
 use choice::Answer;
 use cube::Cube;
 use cube::EdgeNo;
@@ -24,8 +24,8 @@ use cube::Refusal;
 use edge::EdgeAnswer;
 use edge::Reading;
 use face::FaceAnswer;
-use list::Outcome;
 use notes::Notes;
+use rows::Outcome;
 use tilings::Choice;
 use tilings::Counted;
 
@@ -72,7 +72,7 @@ pub struct Mc33Outcome {
 pub extern "C" fn mc33_version() -> u32
     ensures { λ r. ⌜ r ≡ version ⌝ }
 {
-    4000
+    5000
 }
 
 // The f32 square root of x: the nearest value. A NaN has no pattern of its own here.
@@ -236,7 +236,7 @@ fn outcome_numbers(outcome: Outcome) -> Mc33Outcome
 }
 
 // The choices for a list of cubes: 8 corner values and 2 numbers (case and configuration) a cube, and
-// 4 answer bytes a cube. A refused list has every answer byte unchanged.
+// 6 answer bytes a cube. A refused list has every answer byte unchanged.
 #[no_mangle]
 pub extern "C" fn mc33_list(corners: &[f32], numbers: &[i8], answers: &mut [u8]) -> Mc33Outcome
     ensures outcome { λ r. ⌜ r ≡ outcomeNumbers (resultOf (now (corners .entry)) (now (numbers .entry)) (length (now (answers .entry)))) ⌝ }

@@ -5,19 +5,19 @@ ghost use Prim.Native.Nat.{_≤_, _<_};
 ghost use lib.ListN.{length};
 
 // The two names lines and the corners, every byte, and 100,000 bytes '1': behind these the tests are decoded.
-pub(crate) const KNOWN: usize = 100397;
+pub(crate) const KNOWN: usize = 100416;
 
 // Room for these and for a test: its input and its output have up to 131,072 bytes together.
-pub(crate) const ROOM: usize = 231469;
+pub(crate) const ROOM: usize = 231488;
 
 // Where the output's names line, the corners, every byte and the bytes '1' begin.
 const ANSWER_NAMES: usize = 36;
 
-const CORNERS: usize = 69;
+const CORNERS: usize = 88;
 
-const BYTES: usize = 141;
+const BYTES: usize = 160;
 
-const ONES: usize = 397;
+const ONES: usize = 416;
 
 // More than any room.
 const NOT: usize = usize::MAX;
@@ -31,7 +31,7 @@ pub(crate) fn wide(byte: u8) -> u64
 // Lays the names lines and the corners.
 pub(crate) fn lay_lines(room: &mut [u8; ROOM]) {
     bytes::copy(
-        b"case config c0 c1 c2 c3 c4 c5 c6 c7\ncode row column centre unsettled\n 3f800000 bf800000 3f800000 bf800000 bf800000 bf800000 bf800000 bf800000",
+        b"case config c0 c1 c2 c3 c4 c5 c6 c7\ncode row column centre unsettled unmatched readings\n 3f800000 bf800000 3f800000 bf800000 bf800000 bf800000 bf800000 bf800000",
         room,
     );
 }

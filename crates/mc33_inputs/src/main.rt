@@ -86,7 +86,7 @@ fn behind_arrow(file: &[u8], from: usize, to: usize) -> usize
 
 // The test that is decoded behind what is known, its input up to `n` and its output up to `m`.
 fn decoded(room: &[u8], n: usize, m: usize) -> Ran
-    requires { ⌜ (length (now room) ≡ 231469) × ((100397 ≤ n) × (n ≤ m)) ⌝ }
+    requires { ⌜ (length (now room) ≡ 231488) × ((100416 ≤ n) × (n ≤ m)) ⌝ }
 {
     if room.len() < m {
         return told(false);

@@ -1,4 +1,4 @@
--- Text put at a place: its length, one text after another, one store, one more byte of a copy and of a move. Assumes nothing.
+-- Text put at a place: its length, what stands before its end and behind it, one text after another, one store, one more byte of a copy and of a move. Assumes nothing.
 use mathlib.Core.Path.{_≡_, refl, sym, ap, _∙_, subst}
 use mathlib.Core.List.{List, [], _∷_, _++_, append-assoc}
 use Prim.Native.Nat.{ℕ, _+_, _≤_, _<_}
@@ -6,7 +6,7 @@ use native.Mathlib.Nat.{add-zero, zero-add, add-assoc, add-comm}
 use native.Mathlib.Numerals.{add-one}
 use native.Mathlib.Omega.{arith}
 use lib.ListN.{length, take, drop, set, getD, length-append, length-drop, take-append-drop}
-use lib.Seq.{length-take-le, take-at, drop-append-add, drop-drop, set-split, take-suc, getD-append-add, getD-take, getD-drop}
+use lib.Seq.{length-take-le, take-at, drop-at, drop-append-add, drop-drop, set-split, take-suc, getD-append-add, getD-take, getD-drop}
 use Rattle.put.specs.Placed.{placed}
 
 pub placed-length : (xs : List ℕ) (at : ℕ) (text : List ℕ) → at + length text ≤ length xs → length (placed xs at text) ≡ length xs
@@ -25,6 +25,22 @@ placed-nothing xs at = ap (λ (k : ℕ). take at xs ++ drop k xs) (add-zero at) 
 pub placed-front : (xs text : List ℕ) (n : ℕ) → length text ≡ n → take n (placed xs 0 text) ≡ text
 unfolding placed
 placed-front xs text n e = take-at text (drop (0 + length text) xs) n e
+
+-- up to the text's end, and behind it
+placed-head-length : (xs : List ℕ) (at : ℕ) (text : List ℕ) → at ≤ length xs → length (take at xs ++ text) ≡ at + length text
+placed-head-length xs at text h = length-append (take at xs) text ∙ ap (λ (k : ℕ). k + length text) (length-take-le at xs h)
+
+pub placed-head : (xs : List ℕ) (at : ℕ) (text : List ℕ) → at ≤ length xs → take (at + length text) (placed xs at text) ≡ take at xs ++ text
+unfolding placed
+placed-head xs at text h =
+    ap (take (at + length text)) (sym (append-assoc (take at xs) text (drop (at + length text) xs)))
+    ∙ take-at (take at xs ++ text) (drop (at + length text) xs) (at + length text) (placed-head-length xs at text h)
+
+pub placed-rest : (xs : List ℕ) (at : ℕ) (text : List ℕ) → at ≤ length xs → drop (at + length text) (placed xs at text) ≡ drop (at + length text) xs
+unfolding placed
+placed-rest xs at text h =
+    ap (drop (at + length text)) (sym (append-assoc (take at xs) text (drop (at + length text) xs)))
+    ∙ drop-at (take at xs ++ text) (drop (at + length text) xs) (at + length text) (placed-head-length xs at text h)
 
 -- m elements past a first part, which has n
 drop-past : (p q : List ℕ) (n m : ℕ) → length p ≡ n → drop (n + m) (p ++ q) ≡ drop m q

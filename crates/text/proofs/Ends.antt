@@ -11,6 +11,7 @@ use borrow.Author.Tests.{le-leb, lt-leb}
 use Rattle.put.specs.Placed.{placed}
 use Rattle.put.proofs.Placed.{placed-nothing}
 use Rattle.answer.specs.Answer.{refusedLine}
+use Rattle.answer.specs.Room.{lineRoom}
 use Rattle.text.specs.Run.{isEmpty, atEnd}
 use Rattle.text.specs.Block.{block, stopped, behind, blockFrom}
 use Rattle.text.proofs.Placed.{put-head, put-rest}
@@ -56,14 +57,14 @@ at-end part number t e =
 
 module _ (part : List ℕ) (number : ℕ) (out : List ℕ) where
   pub ends-whole : (eqb (length part) 0 && ltb 1 number) ≡ true
-      → ((0 ≡ length (atEnd number part)) × (0 ≤ 64)) × (out ≡ placed out 0 (atEnd number part))
+      → ((0 ≡ length (atEnd number part)) × (0 ≤ lineRoom)) × (out ≡ placed out 0 (atEnd number part))
   ends-whole h =
       let e = at-end part number true h in
       ((sym (ap length e), omega arith), sym (ap (placed out 0) e ∙ placed-nothing out 0))
 
   pub ends-refused : (eqb (length part) 0 && ltb 1 number) ≡ false → (r : ℕ) (exit : List ℕ)
-      → (r ≡ 0 + length (refusedLine 8 number)) × (r ≤ 0 + 64) → exit ≡ placed out 0 (refusedLine 8 number)
-      → ((r ≡ length (atEnd number part)) × (r ≤ 64)) × (exit ≡ placed out 0 (atEnd number part))
+      → (r ≡ 0 + length (refusedLine 8 number)) × (r ≤ 0 + lineRoom) → exit ≡ placed out 0 (refusedLine 8 number)
+      → ((r ≡ length (atEnd number part)) × (r ≤ lineRoom)) × (exit ≡ placed out 0 (atEnd number part))
   ends-refused h r exit place text =
       let e = at-end part number false h in
       let l = ap length e in

@@ -1,26 +1,12 @@
 -- A slice after a text was put at a place: up to the text's end, and behind it. Assumes nothing.
 use mathlib.Core.Path.{_≡_, sym, ap, _∙_, subst}
-use mathlib.Core.List.{List, _++_, append-assoc}
+use mathlib.Core.List.{List, _++_}
 use Prim.Native.Nat.{ℕ, _+_, _-_, _≤_}
 use native.Mathlib.Omega.{arith}
-use lib.ListN.{length, take, drop, length-append}
-use lib.Seq.{length-take-le, take-at, drop-at, drop-drop}
+use lib.ListN.{length, take, drop}
+use lib.Seq.{drop-drop}
 use Rattle.put.specs.Placed.{placed}
-
-placed-head-length : (xs : List ℕ) (at : ℕ) (text : List ℕ) → at ≤ length xs → length (take at xs ++ text) ≡ at + length text
-placed-head-length xs at text h = length-append (take at xs) text ∙ ap (λ (k : ℕ). k + length text) (length-take-le at xs h)
-
-placed-head : (xs : List ℕ) (at : ℕ) (text : List ℕ) → at ≤ length xs → take (at + length text) (placed xs at text) ≡ take at xs ++ text
-unfolding placed
-placed-head xs at text h =
-    ap (take (at + length text)) (sym (append-assoc (take at xs) text (drop (at + length text) xs)))
-    ∙ take-at (take at xs ++ text) (drop (at + length text) xs) (at + length text) (placed-head-length xs at text h)
-
-placed-rest : (xs : List ℕ) (at : ℕ) (text : List ℕ) → at ≤ length xs → drop (at + length text) (placed xs at text) ≡ drop (at + length text) xs
-unfolding placed
-placed-rest xs at text h =
-    ap (drop (at + length text)) (sym (append-assoc (take at xs) text (drop (at + length text) xs)))
-    ∙ drop-at (take at xs ++ text) (drop (at + length text) xs) (at + length text) (placed-head-length xs at text h)
+use Rattle.put.proofs.Placed.{placed-head, placed-rest}
 
 -- a text put at `put`, up to r
 module _ (out exit text : List ℕ) (put r : ℕ) (room : put ≤ length out) (place : r ≡ put + length text) (is : exit ≡ placed out put text) where

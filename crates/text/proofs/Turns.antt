@@ -2,16 +2,20 @@
 use mathlib.Core.Path.{_≡_, refl, sym, ap, _∙_}
 use mathlib.Core.Bool.{Bool, true, false}
 use mathlib.Core.List.{List, [], _++_, append-assoc}
-use Prim.Native.Nat.{ℕ, suc, _+_, _-_, _≤_, _<_}
+use Prim.Native.Nat.{ℕ, suc, _+_, _-_, _*_, _≤_, _<_}
 use native.Mathlib.Numerals.{add-one}
 use native.Mathlib.Omega.{arith}
+use lib.Dec.{leb}
 use lib.ListN.{length, take, drop, length-drop}
 use lib.Seq.{length-take-le, take-length, drop-length, drop-drop}
+use borrow.Author.Tests.{leb-true, leb-false}
+use borrow.Table.Steps.{cases}
 use Rattle.bytes.specs.Bytes.{slice, indexOf}
 use Rattle.put.specs.Placed.{placed}
 use Rattle.put.proofs.Placed.{placed-length}
+use Rattle.answer.specs.Room.{lineRoom, namesMore}
 use Rattle.answer.specs.Answer.{Reply, answer, refusal, replyTo, printed, ends}
-use Rattle.text.specs.Block.{Block, block, behind, after, blockFrom, blockOf}
+use Rattle.text.specs.Block.{blockRoom, Block, block, behind, after, blockFrom, blockOf}
 use Rattle.text.proofs.Lines.{Plain, next-line, part-line}
 use Rattle.text.proofs.Placed.{put-head, put-rest, later}
 
@@ -32,7 +36,8 @@ goes-not (refusal why) n x e = refl
 pub record Answering (input : List ℕ) (number : ℕ) (entry out : List ℕ) (at put n end : ℕ) : Type 0 where
   pub found : end ≡ at + indexOf 10 (drop at input)
   pub inside : end ≤ length input
-  pub fits : put ≤ at
+  -- the output's names are longer than the input's
+  pub fits : put + 16 * (2 - n) ≤ at + 32
   pub counted : n ≤ number + at
   pub long : length out ≡ length entry
   pub rest : drop put out ≡ drop put entry
@@ -55,7 +60,7 @@ begins input number out end e h = record {
   so-far = refl;
 }
 
-module _ (input : List ℕ) (number : ℕ) (entry out : List ℕ) (at put n end : ℕ) (room : length input + 64 ≤ length entry)
+module _ (input : List ℕ) (number : ℕ) (entry out : List ℕ) (at put n end : ℕ) (room : length input + blockRoom ≤ length entry)
     (was : Answering input number entry out at put n end) where
   -- the loop's end: no newline is left
   pub last : length input ≤ end → (exit : List ℕ) (r left m : ℕ) (over : Bool)
@@ -98,7 +103,7 @@ module _ (input : List ℕ) (number : ℕ) (entry out : List ℕ) (at put n end 
         ∙ sym (was .so-far)
 
     -- a line was answered, and the next is found
-    pub turn : r ≤ put + 64 → r ≤ put + length line → ends (replyTo n line) ≡ false
+    pub turn : r ≤ put + lineRoom → (r ≤ put + length line + namesMore) × (1 < n → r ≤ put + length line) → ends (replyTo n line) ≡ false
         → (after : ℕ) → after ≡ end + 1 + indexOf 10 (slice (end + 1) (length input) input) → after ≤ length input
         → Answering input number entry exit (end + 1) r (n + 1) after
     turn wide short e after found inside =
@@ -111,7 +116,7 @@ module _ (input : List ℕ) (number : ℕ) (entry out : List ℕ) (at put n end 
         record {
           found = found ∙ ap (λ (l : List ℕ). end + 1 + indexOf 10 l) (to-the-end input (end + 1));
           inside = inside;
-          fits = omega arith;
+          fits = cases (leb n 1) (λ first. let h = leb-true n 1 first in let names = short .0 in omega arith) (λ later. let h = short .1 (leb-false n 1 later) in omega arith);
           counted = omega arith;
           long = ap length is ∙ placed-length out put (printed n (replyTo n line)) (omega arith) ∙ was .long;
           rest = kept;

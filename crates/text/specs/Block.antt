@@ -1,12 +1,17 @@
 -- The program over an input that comes in blocks: what a block comes to, and that blocks join to the run of the whole. Definitions only.
-use Prim.Native.Nat.{ℕ, suc}
+use Prim.Native.Nat.{ℕ, suc, _+_}
 use mathlib.Core.Path.{_≡_}
 use mathlib.Core.Bool.{Bool, true, false, cond}
 use mathlib.Core.List.{List, [], _∷_, _++_, foldr}
 use lib.Dec.{eqb, leb}
 use lib.ListN.{length}
 use Rattle.answer.specs.Answer.{Reply, answer, refusal, replyTo, refusedLine}
+use Rattle.answer.specs.Room.{lineRoom}
 use Rattle.text.specs.Run.{atEnd, runFrom, run}
+
+-- what a block writes has at most so many bytes more than the block: the output's names have 16 more than the input's, newlines counted, and lines 0 and 1 name; then one answer
+abbrev pub blockRoom : ℕ
+blockRoom = 32 + lineRoom
 
 -- what was written, the part line that is left, its number, and whether it was the end
 pub record Block : Type 0 where

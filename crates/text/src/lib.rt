@@ -6,8 +6,9 @@ ghost use mathlib.Core.List.{[]};
 ghost use Prim.Native.Nat.{_+_, _≤_, _<_, _^_};
 ghost use lib.ListN.{length, take, drop};
 ghost use Rattle.put.specs.Placed.{placed};
+ghost use Rattle.answer.specs.Room.{lineRoom};
 ghost use Rattle.text.specs.Run.{atEnd};
-ghost use Rattle.text.specs.Block.{block, behind, blockFrom, blockOf, Composes, BlocksJoin};
+ghost use Rattle.text.specs.Block.{blockRoom, block, behind, blockFrom, blockOf, Composes, BlocksJoin};
 
 // How much was put, where the part line that is left begins, its number, and whether it was the end.
 pub struct Answered {
@@ -19,10 +20,10 @@ pub struct Answered {
 
 // The part line from `at` on: no line is longer than 81 bytes.
 fn part_line(input: &[u8], at: usize, number: u64, out: &mut [u8], put: usize) -> Answered
-    requires { ⌜ (at ≤ length (now input)) × (put + 64 ≤ length (now out)) ⌝ }
+    requires { ⌜ (at ≤ length (now input)) × (put + lineRoom ≤ length (now out)) ⌝ }
     ensures block { λ r. ⌜ block (take (r .put) (now (out .exit))) (drop (r .left) (now (input .entry))) (r .number) (r .over) ≡ behind (take put (now (out .entry))) (blockFrom number (drop at (now (input .entry))) []) ⌝ }
     ensures rest { λ r. ⌜ (put ≤ r .put) × (drop (r .put) (now (out .exit)) ≡ drop (r .put) (now (out .entry))) ⌝ }
-    ensures bounds { λ r. ⌜ (r .put ≤ put + 64) × ((r .left ≤ length (now (input .entry))) × (r .number ≡ number)) ⌝ }
+    ensures bounds { λ r. ⌜ (r .put ≤ put + lineRoom) × ((r .left ≤ length (now (input .entry))) × (r .number ≡ number)) ⌝ }
 {
     if 82 <= input.len() - at {
         return Answered {
@@ -42,7 +43,7 @@ fn part_line(input: &[u8], at: usize, number: u64, out: &mut [u8], put: usize) -
 
 // The whole lines of a block that begins with line `number`.
 pub fn answer_block(input: &[u8], number: u64, out: &mut [u8]) -> Answered
-    requires { ⌜ length (now input) + 64 ≤ length (now out) ⌝ }
+    requires { ⌜ length (now input) + blockRoom ≤ length (now out) ⌝ }
     requires { ⌜ number + length (now input) < 2 ^ 64 ⌝ }
     ensures block { λ r. ⌜ block (take (r .put) (now (out .exit))) (drop (r .left) (now (input .entry))) (r .number) (r .over) ≡ blockOf number (now (input .entry)) ⌝ }
     ensures rest { λ r. ⌜ drop (r .put) (now (out .exit)) ≡ drop (r .put) (now (out .entry)) ⌝ }
@@ -73,8 +74,8 @@ pub fn answer_block(input: &[u8], number: u64, out: &mut [u8]) -> Answered
 
 // The input's end, in line `number`, of which `part` has come.
 pub fn finish(part: &[u8], number: u64, out: &mut [u8]) -> usize
-    requires { ⌜ 64 ≤ length (now out) ⌝ }
-    ensures place { λ r. ⌜ (r ≡ length (atEnd number (now (part .entry)))) × (r ≤ 64) ⌝ }
+    requires { ⌜ lineRoom ≤ length (now out) ⌝ }
+    ensures place { λ r. ⌜ (r ≡ length (atEnd number (now (part .entry)))) × (r ≤ lineRoom) ⌝ }
     ensures text { λ r. ⌜ now (out .exit) ≡ placed (now (out .entry)) 0 (atEnd number (now (part .entry))) ⌝ }
     ensures joins { λ _. ⌜ BlocksJoin ⌝ }
 {

@@ -1,6 +1,11 @@
 -- `answer::print_choice` puts the reply of an answer. Assumes nothing.
+use mathlib.Core.Path.{subst}
+use Prim.Native.Nat.{_≤_}
+use native.Mathlib.Omega.{arith}
 use borrow.Author.Needs.{needs}
-use Rattle.answer.proofs.Replies.{fields-answer, refusal-put, made-reply, refused-reply}
+use Rattle.choice.specs.declared.Answer.{Answer}
+use Rattle.choice.specs.Choice.{readingsIn, said}
+use Rattle.answer.proofs.Replies.{ChoiceEnds, fields-answer, refusal-put, made-reply, refused-reply}
 use Rattle.answer.proofs.print_choice.Statement.{statement}
 use Rattle.answer.proofs.print_choice.Tie as tie
 
@@ -8,7 +13,9 @@ enum-known-answer : tie.Need-enum-known-answer
 enum-known-answer c = search needs
 
 put-choice-requires : tie.Need-put-choice-requires
-put-choice-requires c κs = search needs
+put-choice-requires c κs =
+    let start = c .before .before .before .before .before in
+    (omega arith, subst (λ (a : Answer). readingsIn (said a) ≤ 255) (c .before .before .answer .given .1) (start .pre .1))
 
 answered-requires : tie.Need-answered-requires
 answered-requires c κs = search needs
@@ -40,7 +47,7 @@ same-length-2 c = search needs
 
 returns-2 : tie.Need-returns-2
 returns-2 c =
-    refusal-put _ _ _ _ _ _ _ _ _ _
+    refusal-put _ _ _ _ _ _ _ (ChoiceEnds _) _ _
     (refused-reply _ _ _ (c .before .before .before .before .before .before .before .answer2 .given .1) (c .before .before .before .before .before .number .ensures .0))
     (c .before .before .before .put-refused .ensures)
     (c .refused .ensures)

@@ -16,27 +16,27 @@ put-field-requires-3 c κs = search needs
 put-field-requires-4 : tie.Need-put-field-requires-4
 put-field-requires-4 c κs = search needs
 
-put-field-requires-5 : tie.Need-put-field-requires-5
-put-field-requires-5 c κs = search needs
+put-counts-requires : tie.Need-put-counts-requires
+put-counts-requires c κs = search needs
 
 same-length : tie.Need-same-length
 same-length c = search needs
 
 returns : tie.Need-returns
 returns c =
-    let fifth = c .before .before in
-    let fourth = fifth .before .before .before .before in
+    let counted = c .before .before in
+    let fourth = counted .before .before .before .before in
     let third = fourth .before .before .before .before in
     let second = third .before .before .before .before in
     let first = second .before .before .before .before in
     let start = first .before .before .before in
-    fields-put _ _ _ _ _ _ _ _ _ _ _ _ _ _ _ _ _
-    (start .pre)
+    fields-put _ _ _ _ _ _ _ _ _ _ _ _ _ _ _ _ _ _
+    (start .pre .0)
     (first .put-field .ensures)
     (second .put-field2 .ensures)
     (third .put-field3 .ensures)
     (fourth .put-field4 .ensures)
-    (fifth .put-field5 .ensures)
+    (counted .put-counts .ensures)
 
 pub put-fields-spec : {M : Type 1} → statement M
 put-fields-spec =
@@ -46,6 +46,6 @@ put-fields-spec =
     put-field-requires-2
     put-field-requires-3
     put-field-requires-4
-    put-field-requires-5
+    put-counts-requires
     same-length
     returns)

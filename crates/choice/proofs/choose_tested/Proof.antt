@@ -1,4 +1,4 @@
--- `choice::choose_tested` chooses what `choiceOf` does where nothing is refused, with few unsettled.
+-- `choice::choose_tested` chooses what `choiceOf` does where nothing is refused, with few unsettled and few readings.
 use mathlib.Core.Path.{sym, _∙_}
 use borrow.Author.Needs.{needs}
 use Rattle.choice.proofs.Tested.{with-few, room, plan-chosen, nothing-chosen, no-case}

@@ -5,7 +5,8 @@ use native.Mathlib.Omega.{arith}
 use lib.ListN.{length}
 use Rattle.put.specs.Placed.{placed}
 use Rattle.put.proofs.Placed.{placed-nothing}
-use Rattle.list.specs.Lists.{done, firstFrom, rowsOf}
+use Rattle.rows.specs.Rows.{done}
+use Rattle.list.specs.Lists.{firstFrom, rowsOf}
 use Rattle.list.proofs.Firsts.{from-first, made-one}
 use Rattle.list.proofs.Rows.{rows-again, rows-all}
 use Rattle.list.proofs.put_rows.Statement.{statement}
@@ -27,9 +28,6 @@ row-at-requires c κs =
     let l = c .before .loop in
     let s = c .before .before .before .before .args in
     ((omega arith, omega arith), made-one (s .corners .now) (s .numbers .now) (s .n) (l .k) (omega arith) (l .inv .1 .0) .0)
-
-mul-put-row : tie.Need-mul-put-row Inv-loop μ-loop
-mul-put-row c = omega arith
 
 put-row-requires : tie.Need-put-row-requires Inv-loop μ-loop
 put-row-requires c κs = omega arith
@@ -65,7 +63,6 @@ put-rows-spec =
     μ-loop
     loop-holds
     row-at-requires
-    mul-put-row
     put-row-requires
     add-k
     loop-less

@@ -3,8 +3,8 @@ use mathlib.Core.Path.{subst}
 use Prim.Native.Nat.{_≤_}
 use borrow.Author.Needs.{needs}
 use Rattle.choice.specs.declared.Answer.{Answer}
-use Rattle.choice.specs.Choice.{said}
-use Rattle.mc33_c.specs.Answers.{readingsIn, choiceNumbers}
+use Rattle.choice.specs.Choice.{readingsIn, said}
+use Rattle.mc33_c.specs.Answers.{choiceNumbers}
 use Rattle.mc33_c.proofs.choice_numbers.Statement.{statement}
 use Rattle.mc33_c.proofs.choice_numbers.Tie as tie
 

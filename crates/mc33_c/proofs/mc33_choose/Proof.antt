@@ -2,7 +2,9 @@
 use borrow.Author.Needs.{needs}
 use mir.Syntax.{w8}
 use mir.ValLaws.{toZ-ofZ}
-use Rattle.mc33_c.proofs.Told.{few-in, chose}
+use native.Mathlib.Omega.{arith}
+use Rattle.choice.proofs.Ranges.{few-in}
+use Rattle.mc33_c.proofs.Told.{chose}
 use Rattle.mc33_c.proofs.mc33_choose.Statement.{statement}
 use Rattle.mc33_c.proofs.mc33_choose.Tie as tie
 
@@ -10,7 +12,7 @@ handle-cube-requires : tie.Need-handle-cube-requires
 handle-cube-requires c κs = search needs
 
 choice-numbers-requires : tie.Need-choice-numbers-requires
-choice-numbers-requires c κs = few-in _ _ (c .handle-cube .ensures .1 .0)
+choice-numbers-requires c κs = let few = few-in _ _ (c .handle-cube .ensures .1 .0) in omega arith
 
 returns : tie.Need-returns
 returns c =

@@ -78,7 +78,7 @@ loop-again c =
     let on = c .before .if1 .left in
     turn input (start .args .number) (start .args .out .now) (now .out) (now .at) (now .put) (now .n) (now .end) (omega arith) (now .inv) (omega arith)
     line refl (said .result .at) (said .last .1 .1 .0) (said .ensures .0) (said .ensures .1 .1 .0)
-    (said .ensures .1 .1 .1 .0) (said .ensures .1 .1 .1 .1 on) (sym (said .ensures .1 .0) ∙ on)
+    (said .ensures .1 .1 .1 .0 .0) (said .ensures .1 .1 .1 .0 .1 on) (sym (said .ensures .1 .0) ∙ on)
     (c .find2 .result) (c .find2 .ensures .0) (c .find2 .ensures .1)
 
 part-line-requires : tie.Need-part-line-requires Inv-loop μ-loop

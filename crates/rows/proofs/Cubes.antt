@@ -16,7 +16,7 @@ use Rattle.reader.specs.declared.Step.{Step}
 use Rattle.reader.specs.declared.Step.the-variants as step
 use Rattle.reader.specs.Reader.{cube, part, end, standing, cubeAt, stepAt}
 use Rattle.choice.specs.Choice.{refusalOf, choiceOf}
-use Rattle.list.specs.Lists.{refusalAt, choiceAt}
+use Rattle.rows.specs.Rows.{refusalAt, choiceAt}
 
 module _ (xs : List Float) (i : ℕ) (h : i < length xs / 8) (r : Step) (e : standing r ≡ stepAt xs i) where
   stands : standing r ≡ cube (cubeAt xs i)

@@ -1,9 +1,9 @@
--- `list::refusal_at` is `refusalAt`. Assumes nothing.
+-- `rows::refusal_at` is `refusalAt`. Assumes nothing.
 use mathlib.Core.Path.{_∙_}
-use Rattle.list.proofs.Cubes.{refusal-read}
+use Rattle.rows.proofs.Cubes.{refusal-read}
 use borrow.Author.Needs.{needs, sfits-of}
-use Rattle.list.proofs.refusal_at.Statement.{statement}
-use Rattle.list.proofs.refusal_at.Tie as tie
+use Rattle.rows.proofs.refusal_at.Statement.{statement}
+use Rattle.rows.proofs.refusal_at.Tie as tie
 
 mul-refusal : tie.Need-mul-refusal
 mul-refusal c = search needs

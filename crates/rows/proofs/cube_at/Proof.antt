@@ -1,8 +1,8 @@
--- `list::cube_at` gives the cube of `cubeAt`: the place is one of the list's. Assumes nothing.
-use Rattle.list.proofs.Cubes.{read-cube, no-part, no-end}
+-- `rows::cube_at` gives the cube of `cubeAt`: the place is one of the list's. Assumes nothing.
+use Rattle.rows.proofs.Cubes.{read-cube, no-part, no-end}
 use borrow.Author.Needs.{needs}
-use Rattle.list.proofs.cube_at.Statement.{statement}
-use Rattle.list.proofs.cube_at.Tie as tie
+use Rattle.rows.proofs.cube_at.Statement.{statement}
+use Rattle.rows.proofs.cube_at.Tie as tie
 
 read-at-requires : tie.Need-read-at-requires
 read-at-requires c κs = search needs

@@ -1,10 +1,10 @@
--- `list::row_at` gives the bytes of the choice of `choiceAt`. Assumes nothing.
+-- `rows::row_at` gives the bytes of the choice of `choiceAt`. Assumes nothing.
 use mathlib.Core.Path.{ap, _∙_}
-use Rattle.list.specs.Lists.{bytesOf}
-use Rattle.list.proofs.Cubes.{refusal-read, choice-read}
+use Rattle.rows.specs.Rows.{bytesOf}
+use Rattle.rows.proofs.Cubes.{refusal-read, choice-read}
 use borrow.Author.Needs.{needs, sfits-of}
-use Rattle.list.proofs.row_at.Statement.{statement}
-use Rattle.list.proofs.row_at.Tie as tie
+use Rattle.rows.proofs.row_at.Statement.{statement}
+use Rattle.rows.proofs.row_at.Tie as tie
 
 mul-choose-tested : tie.Need-mul-choose-tested
 mul-choose-tested c = search needs

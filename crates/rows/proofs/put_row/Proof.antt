@@ -1,10 +1,13 @@
--- `list::put_row` is four stores. Assumes nothing.
+-- `rows::put_row` is six stores. Assumes nothing.
 use native.Mathlib.Omega.{arith}
 use lib.ListN.{length-set}
-use Rattle.list.proofs.Rows.{four-put}
+use Rattle.rows.proofs.Rows.{row-put}
 use borrow.Author.Needs.{needs}
-use Rattle.list.proofs.put_row.Statement.{statement}
-use Rattle.list.proofs.put_row.Tie as tie
+use Rattle.rows.proofs.put_row.Statement.{statement}
+use Rattle.rows.proofs.put_row.Tie as tie
+
+mul-at : tie.Need-mul-at
+mul-at c = search needs
 
 slice-write-answers : tie.Need-slice-write-answers
 slice-write-answers c = search needs
@@ -27,16 +30,29 @@ add-answers-3 c = search needs
 slice-write-answers-4 : tie.Need-slice-write-answers-4
 slice-write-answers-4 c = simp length-set (omega arith)
 
+add-answers-4 : tie.Need-add-answers-4
+add-answers-4 c = search needs
+
+slice-write-answers-5 : tie.Need-slice-write-answers-5
+slice-write-answers-5 c = simp length-set (omega arith)
+
+add-answers-5 : tie.Need-add-answers-5
+add-answers-5 c = search needs
+
+slice-write-answers-6 : tie.Need-slice-write-answers-6
+slice-write-answers-6 c = simp length-set (omega arith)
+
 same-length : tie.Need-same-length
 same-length c = search needs
 
 returns : tie.Need-returns
-returns c = four-put _ _ _ _ _ _ (c .pre)
+returns c = row-put _ _ _ _ _ _ _ _ (c .pre)
 
 pub put-row-spec : {M : Type 1} → statement M
 put-row-spec =
     tie.close
     (tie.spec
+    mul-at
     slice-write-answers
     add-answers
     slice-write-answers-2
@@ -44,5 +60,9 @@ put-row-spec =
     slice-write-answers-3
     add-answers-3
     slice-write-answers-4
+    add-answers-4
+    slice-write-answers-5
+    add-answers-5
+    slice-write-answers-6
     same-length
     returns)

@@ -1,12 +1,12 @@
--- `list::row_of` gives the bytes of `bytesOf`. Assumes nothing.
+-- `rows::row_of` gives the bytes of `bytesOf`. Assumes nothing.
 use mathlib.Core.Path.{refl}
 use native.Mathlib.Omega.{arith}
 use borrow.Author.Needs.{needs}
 use Rattle.cube.proofs.Bounds.{bit-bound}
-use Rattle.list.specs.Lists.{bytesOf}
-use Rattle.list.proofs.Rows.{row-as, row-tiled}
-use Rattle.list.proofs.row_of.Statement.{statement}
-use Rattle.list.proofs.row_of.Tie as tie
+use Rattle.rows.specs.Rows.{bytesOf}
+use Rattle.rows.proofs.Rows.{row-as, row-tiled}
+use Rattle.rows.proofs.row_of.Statement.{statement}
+use Rattle.rows.proofs.row_of.Tie as tie
 
 enum-told : tie.Need-enum-told
 enum-told c = search needs
@@ -32,7 +32,7 @@ mul-filled c = search needs
 add-filled : tie.Need-add-filled
 add-filled c =
     let t = c .before .before in
-    let few = t .before .before .pre in
+    let few = t .before .before .before .pre .0 in
     let bit = bit-bound (t .choice2 .given .0 .1 .1 .1 .0) .0 in
     omega arith
 
@@ -41,11 +41,11 @@ filled-requires-3 c κs = search needs
 
 returns : tie.Need-returns
 unfolding bytesOf
-returns c = row-as (c .before .before .before .args .r .notes) _ _ (c .filled .ensures) _ _ (c .before .enum-told .given .1) refl
+returns c = row-as (c .before .before .before .before .args .r .notes) _ _ (c .filled .ensures) _ _ (c .before .enum-told .given .1) refl
 
 returns-2 : tie.Need-returns-2
 unfolding bytesOf
-returns-2 c = row-as (c .before .before .before .before .args .r .notes) _ _ (c .filled2 .ensures) _ _ (c .before .before .choice .given .1) refl
+returns-2 c = row-as (c .before .before .before .before .before .args .r .notes) _ _ (c .filled2 .ensures) _ _ (c .before .before .choice .given .1) refl
 
 returns-3 : tie.Need-returns-3
 returns-3 c = row-tiled _ _ _ _ _ _ _ (c .before .before .before .choice2 .given .1) (c .filled3 .ensures)
