@@ -38,10 +38,10 @@ extern "C" {
 
 /* The version of this header. The major number moves where a caller that was built before would read something
  * wrongly (the bytes of a row, the layout of a record, the meaning of a code) or would no longer build, since a name is
- * gone; the shared object's name has it, as libmc33.so.4. The minor number moves where something is added: a function,
+ * gone; the shared object's name has it, as libmc33.so.5. The minor number moves where something is added: a function,
  * a refusal's number, so keep a `default` in a switch over refusals, or what is counted: from 2.1 on `unsettled` counts
- * blank readings too. From 3.0 on a choice has `unmatched`, from 4.0 on `readings`. */
-#define MC33_VERSION_MAJOR 4
+ * blank readings too. From 3.0 on a choice has `unmatched`, from 4.0 on `readings`, and from 5.0 on a row has both. */
+#define MC33_VERSION_MAJOR 5
 #define MC33_VERSION_MINOR 0
 #define MC33_VERSION (1000 * MC33_VERSION_MAJOR + MC33_VERSION_MINOR)
 
@@ -82,12 +82,11 @@ typedef struct {
  * The edge that is read is picked by the cube's diagonals, the corners 0 6, 1 7, 2 4 and 3 5. `unmatched` is how many
  * picks found none with both ends on the side that they look for (0 to 3): edge 0 was then not picked but left over.
  * The diagonals are the same for every pick, so it is 0 or all of them: 3 in cases 4 and 7, 2 in case 12, 1 in cases 6
- * and 10. Corners 2 and 5 at 1, the others at -1, in case 4: unmatched 3. Rows of a list do not have it.
+ * and 10. Corners 2 and 5 at 1, the others at -1, in case 4: unmatched 3.
  *
  * `readings` is how many face tests and edge readings were made for the choice, and one more where the case-13 test
  * was: 1 in case 3, 3 in case 4, 1 or 2 in case 6, 3 or 6 in case 7, 2 or 3 in case 10, 2 or 4 in case 12, 6 or 7 in
- * case 13, 6 where it has no tiling, and 0 in the other cases. mc33_most_readings has the most. Rows do not have it
- * either. */
+ * case 13, 6 where it has no tiling, and 0 in the other cases. mc33_most_readings has the most. */
 typedef struct {
     uint8_t refusal, code, row, column, centre, unsettled, unmatched, readings;
 } mc33_choice;
@@ -131,11 +130,13 @@ float mc33_root(float x);
 /* The same on bit patterns. The root of a NaN and of a value below zero is always 7fc00000. */
 uint32_t mc33_root_bits(uint32_t bits);
 
-/* A cube's answer bytes in a list. */
-#define MC33_ROW_BYTES 4
+/* A cube's answer bytes in a list, its row: code, row, column, centre + 2 * unsettled, unmatched, readings. MC33_EMPTY is
+ * six zeros; MC33_NO_TILING is followed by the configuration, the sub-configuration, 0, 0 and 6. Before 5.0 a row was
+ * the first four of these bytes. A list of such rows bears no mark: whoever stores rows should store the version too. */
+#define MC33_ROW_BYTES 6
 
 /* Chooses for a list of cubes: 8 corner values a cube, 2 numbers a cube (case and configuration), and MC33_ROW_BYTES
- * answer bytes a cube: code, row, column, centre + 2 * unsettled. Bytes past the last cube's stay as they are. A
+ * answer bytes a cube. Cube i has those from MC33_ROW_BYTES * i on; bytes past the last cube's stay as they are. A
  * refused list has every answer byte unchanged. Lengths are counted in values, numbers and bytes; where one is 0 its
  * pointer may be null. The answers may not overlap the corners or the numbers, and nothing may write to any of the
  * three while the call runs. */
@@ -153,7 +154,7 @@ static inline const char *mc33_refusal_text(uint64_t refusal)
     case MC33_NO_FACE: return "the face number is not -6..-1 or 1..6";
     case MC33_NO_EDGE: return "the edge number is not 0..11";
     case MC33_UNEVEN_LISTS: return "the list has not 8 corner values and 2 numbers a cube";
-    case MC33_NO_ROOM: return "the list has fewer than 4 answer bytes a cube";
+    case MC33_NO_ROOM: return "the list has fewer than 6 answer bytes a cube";
     case MC33_MALFORMED: return "the line is malformed";
     default: return "a refusal that this version does not know";
     }

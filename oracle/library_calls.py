@@ -18,6 +18,7 @@ import sys
 
 CRATES = pathlib.Path(__file__).resolve().parent.parent / 'crates'
 INF, NAN, STEP = math.inf, math.nan, 2.0 ** -23
+ROW = 6  # document 02, Change 10: a cube's answer bytes
 
 calls, answers = [], []
 held = []  # the cubes of the next list: the seven numbers of a choice behind its refusal
@@ -90,17 +91,19 @@ def release():
     held.clear()
 
 
-# Document 01, 'List' and 'What is refused': 6, 7, then the cubes from the first; a refused list has every byte unchanged.
+# Document 01, 'List' and 'What is refused', with document 02's rows: 6, 7, then the cubes from the first; a refused list
+# has every byte unchanged.
 def outcome(values, numbers, room):
     cubes = values // 8
     if values % 8 or numbers % 2 or cubes != numbers // 2:
         return 6, 0, []
-    if room < 4 * cubes:
+    if room < ROW * cubes:
         return 7, 0, []
     for place, choice in enumerate(held[:cubes]):
         if choice[0]:
             return choice[0], place, []
-    rows = ([code, row, column, centre + 2 * unsettled] for _, code, row, column, centre, unsettled, *_ in held[:cubes])
+    rows = ([code, row, column, centre + 2 * unsettled, unmatched, readings]
+            for _, code, row, column, centre, unsettled, unmatched, readings in held[:cubes])
     return 0, 0, sum(rows, [])
 
 
@@ -115,7 +118,7 @@ def cubes_of_the_sample():
     said = (CRATES / 'mc33/stdout').read_text().split('\n')
     choices = sys.stdin.read().splitlines()
     printed = [answer for answer in said[1:] if answer[:1].isdigit()]
-    if [choice.rsplit(' ', 2)[0] for choice in choices] != printed:
+    if choices != printed:
         sys.exit("standard input has not the choices of mc33's sample")
     return [(text, [int(number) for number in choice.split()]) for text, choice in zip(texts[1:], choices)]
 
@@ -137,7 +140,7 @@ def hand_cubes():
     made(12, 0, corners({0: 1, 1: 1, 2: 1, 7: 1}), 26, 23, 0, 0, 2, 4)
     made(13, 0, corners({0: 1, 2: 1, 5: 1, 7: 1}), 30, 0, 0, 0, 0, 6)
     made(13, 0, corners({0: 1, 2: 1, 5: 1, 7: 1}, -2), 29, 0, 0, 0, 0, 6)
-    choose_list(120, 30, 60)
+    choose_list(120, 30, 90)
     release()
 
 
@@ -155,19 +158,19 @@ def kinds_of_row(sampled):
     sampled(lambda code, row, column, centre, unsettled, *_: unsettled == 2 and row > 1)
     made(4, 0, corners({0: 3, 6: 3}), 6, 0, 0, 0, 3, 3)
     note('done, with a row more of room and with none')
-    for sizes in (80, 20, 44), (80, 20, 40):
+    for sizes in (80, 20, 66), (80, 20, 60):
         choose_list(*sizes)
     note("6: a value less, a value more, a number less, a cube's less")
-    for sizes in (79, 20, 40), (81, 20, 40), (80, 19, 40), (80, 18, 40), (72, 20, 40):
+    for sizes in (79, 20, 60), (81, 20, 60), (80, 19, 60), (80, 18, 60), (72, 20, 60):
         choose_list(*sizes)
     note("6: document 01's 8 values and 4 numbers, and before 7")
-    for sizes in (8, 4, 4), (8, 4, 3):
+    for sizes in (8, 4, 6), (8, 4, 5):
         choose_list(*sizes)
-    note("7: document 01's 1 cube and 3 bytes; a byte less; none")
-    for sizes in (8, 2, 3), (80, 20, 39), (80, 20, 0):
+    note('7: 1 cube and 5 bytes, or 4; 10 cubes and a byte less, 40, none')
+    for sizes in (8, 2, 5), (8, 2, 4), (80, 20, 59), (80, 20, 40), (80, 20, 0):
         choose_list(*sizes)
     note('no cubes')
-    for sizes in (0, 0, 4), (0, 0, 0):
+    for sizes in (0, 0, 6), (0, 0, 0):
         choose_list(*sizes)
     release()
 
@@ -177,6 +180,7 @@ def picks_without_a_match(sampled):
     for number in 1, 2, 3:
         for unsettled in 0, number:
             sampled(lambda *choice: choice[4:6] == (unsettled, number))
+    choose_list(48, 12, 36)
     release()
 
 
@@ -185,6 +189,7 @@ def readings_of_a_case(sampled):
     for codes, readings in (((10,), 1), ((8, 9), 2), ((11, 12, 13), 3), ((14, 15), 6), ((21, 22), 2), ((18, 19, 20), 3),
                             ((27, 28), 2), ((24, 25, 26), 4), (range(29, 36), 6), ((36,), 7), ((37,), 7)):
         sampled(lambda code, *choice: code in codes and choice[-1] == readings)
+    choose_list(88, 22, 66)
     release()
 
 
@@ -193,31 +198,31 @@ def refusals_of_a_cube():
     note('1, 2 and 3, each at the first, at the last and before another')
     for bad in (15, 0, corners({}, 1), 1), (4, 8, corners({}, 1), 2), (4, 0, corners({7: INF}, 1), 3):
         refused(*bad)
-        choose_list(8, 2, 4)
+        choose_list(8, 2, 6)
         release()
     made(3, 0, good, 4, 0, 0, 0, 0, 1)
     refused(4, 0, corners({0: -INF}, 1), 3)
     refused(15, 0, good, 1)
-    for sizes in (8, 2, 4), (16, 4, 12), (24, 6, 12), (24, 6, 11):
+    for sizes in (8, 2, 6), (16, 4, 18), (24, 6, 18), (24, 6, 17):
         choose_list(*sizes)
     release()
     made(3, 0, good, 4, 0, 0, 0, 0, 1)
     made(0, -1, good, 0, 0, 0, 0, 0, 0)
     refused(-1, 0, good, 1)
     refused(4, -1, good, 2)
-    for sizes in (24, 6, 12), (32, 8, 16):
+    for sizes in (24, 6, 18), (32, 8, 24):
         choose_list(*sizes)
     release()
     made(3, 0, good, 4, 0, 0, 0, 0, 1)
     refused(0, 0, good, 2)
     refused(13, 1, corners({3: NAN}, 1), 3)
-    for sizes in (16, 4, 8), (24, 6, 12):
+    for sizes in (16, 4, 12), (24, 6, 18):
         choose_list(*sizes)
     release()
     note('the order of 1, 2 and 3 for one cube; case 0 with an infinity')
     for bad in (15, -2, spoilt, 1), (4, -1, spoilt, 2), (0, -1, spoilt, 3):
         refused(*bad)
-        choose_list(8, 2, 4)
+        choose_list(8, 2, 6)
         release()
 
 
@@ -354,10 +359,10 @@ def main():
     note("more than 255 cubes: the first 299 of mc33's sample")
     for text, answer in sample[:299]:
         choose(text, [0, *answer])
-    choose_list(2392, 598, 1200)
+    choose_list(2392, 598, 1800)
     note('and another behind them that is refused')
     refused(4, 8, corners({0: 2, 2: 2}), 2)
-    choose_list(2400, 600, 1200)
+    choose_list(2400, 600, 1800)
     if sys.argv[1:] not in (['calls'], ['answers']):
         sys.exit('calls | answers')
     print('\n'.join(calls if sys.argv[1] == 'calls' else answers))

@@ -4,7 +4,7 @@
     throughput.py INPUT OURS THEIRS [WORD..]
 
 Five rounds, the two in turn, each from the file INPUT to a file of its own. Prints the median times a line, their
-quotient and the throughputs; ends with status 1 where the outputs differ or ours has less than 0.85 of theirs.
+quotient and the throughputs; ends with status 1 where the outputs differ or ours has less than 0.95 of theirs.
 """
 import filecmp
 import os
@@ -13,7 +13,7 @@ import subprocess
 import sys
 import time
 
-LEAST = 0.85
+LEAST = 0.95
 
 
 def run(command, source, target):

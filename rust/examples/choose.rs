@@ -11,10 +11,9 @@ fn print_choice(case: i8, configuration: i8, cube: Cube) {
         Err(refusal) => println!("refused {}", refusal.number()),
         Ok(Choice::Tiled(t)) => {
             let centre = u8::from(t.centre);
-            let [unmatched, readings] = [t.unmatched, t.readings].map(|number| number.unwrap_or(0));
             println!(
-                "code {} row {} column {} centre {centre} unsettled {} unmatched {unmatched} readings {readings}",
-                t.code, t.row, t.column, t.unsettled
+                "code {} row {} column {} centre {centre} unsettled {} unmatched {} readings {}",
+                t.code, t.row, t.column, t.unsettled, t.unmatched, t.readings
             );
         }
         Ok(other) => println!("{other:?}"),

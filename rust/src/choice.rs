@@ -2,8 +2,10 @@
 use core::error::Error;
 use core::fmt::{Display, Formatter, Result as Written};
 
-/// How many bytes [`choose_list`](crate::choose_list) writes for a cube: code, row, column, centre + 2 × unsettled.
-pub const ROW_BYTES: usize = 4;
+/// How many bytes [`choose_list`](crate::choose_list) writes for a cube, its row: code, row, column, centre + 2 ×
+/// unsettled, unmatched, readings. Before version 5 a row was the first four of these, and a list of such rows bears no
+/// mark: whoever stores rows should store the version too.
+pub const ROW_BYTES: usize = 6;
 
 /// A tiling of the Marching Cubes 33 tables. Only this crate makes it; later versions may add fields.
 #[derive(Clone, Copy, Debug, PartialEq, Eq, Hash)]
@@ -21,12 +23,11 @@ pub struct Tiling {
     /// blank: 0 to 3. All corners 1 in case 4 give 3.
     pub unsettled: u8,
     /// How many picks of an edge to read found no diagonal of the cube with both ends on the side that they look for,
-    /// so that edge 0 was left over: 0 to 3, and 0 or all of the picks. `None` where the tiling was read from a row,
-    /// which does not have it.
-    pub unmatched: Option<u8>,
+    /// so that edge 0 was left over: 0 to 3, and 0 or all of the picks.
+    pub unmatched: u8,
     /// How many face tests and edge readings were made for the choice, and one more where the case-13 test was: 0 to 7,
-    /// and at most [`most_readings`](crate::most_readings) of the case. `None` where the tiling was read from a row.
-    pub readings: Option<u8>,
+    /// and at most [`most_readings`](crate::most_readings) of the case.
+    pub readings: u8,
 }
 
 /// The tables' names in the order of their codes.
@@ -75,19 +76,19 @@ pub enum Choice {
 
 impl Choice {
     /// How many face tests and edge readings were made for the choice, and one more where the case-13 test was: 0 for
-    /// [`Choice::Empty`], 6 for [`Choice::Untiled`]. `None` for a tiling that was read from a row.
+    /// [`Choice::Empty`], 6 for [`Choice::Untiled`].
     ///
     /// ```
     /// use mc33::{choose, Cube};
     /// let tied = Cube([1.0, -1.0, 1.0, -1.0, -1.0, -1.0, -1.0, -1.0]);
-    /// assert_eq!(choose(3, 0, tied).map(|choice| choice.readings()), Ok(Some(1)));
+    /// assert_eq!(choose(3, 0, tied).map(|choice| choice.readings()), Ok(1));
     /// let untiled = choose(13, 0, Cube([1.0, 2.0, 1.0, 2.0, 1.0, 4.0, 1.0, 4.0]));
-    /// assert_eq!(untiled.map(|choice| choice.readings()), Ok(Some(6)));
+    /// assert_eq!(untiled.map(|choice| choice.readings()), Ok(6));
     /// ```
-    pub fn readings(&self) -> Option<u8> {
+    pub fn readings(&self) -> u8 {
         match self {
-            Choice::Empty => Some(0),
-            Choice::Untiled { .. } => Some(UNTILED_READINGS),
+            Choice::Empty => 0,
+            Choice::Untiled { .. } => UNTILED_READINGS,
             Choice::Tiled(tiling) => tiling.readings,
         }
     }
@@ -96,25 +97,23 @@ impl Choice {
 /// That there is no tiling is told by six face tests.
 const UNTILED_READINGS: u8 = 6;
 
-/// The choice that these numbers are, or `None` where the library gives no such numbers. A row has no `unmatched` and no
-/// `readings`.
+/// The choice that these numbers are, or `None` where the library gives no such numbers.
 pub fn choice_of(
     code: u8,
     row: u8,
     column: u8,
     centre: u8,
     unsettled: u8,
-    unmatched: Option<u8>,
-    readings: Option<u8>,
+    unmatched: u8,
+    readings: u8,
 ) -> Option<Choice> {
-    let made = |few| readings.unwrap_or(few);
-    match (code, centre, unsettled, unmatched.unwrap_or(0)) {
-        (0, 0, 0, 0) if (row, column, made(0)) == (0, 0, 0) => Some(Choice::Empty),
-        (255, 0, 0, 0) if made(UNTILED_READINGS) == UNTILED_READINGS => Some(Choice::Untiled {
+    match (code, centre, unsettled, unmatched, readings) {
+        (0, 0, 0, 0, 0) if (row, column) == (0, 0) => Some(Choice::Empty),
+        (255, 0, 0, 0, UNTILED_READINGS) => Some(Choice::Untiled {
             configuration: row,
             sub_configuration: column,
         }),
-        (1..=38, 0..=1, 0..=3, 0..=3) if made(0) <= 7 => Some(Choice::Tiled(Tiling {
+        (1..=38, 0..=1, 0..=3, 0..=3, 0..=7) => Some(Choice::Tiled(Tiling {
             code,
             row,
             column,
@@ -131,26 +130,26 @@ pub fn choice_of(
 ///
 /// # Errors
 ///
-/// [`NotARow::Bytes`] where the code is 39 to 254, where the last byte is above 7, or where code 0 or 255 has other
-/// bytes than a list writes with it. Whether a table has such a row and column, and the centre, is not looked at: so
-/// bytes that no list wrote may pass.
+/// [`NotARow::Bytes`] where the code is 39 to 254, where the fourth byte is above 7, unmatched above 3 or readings above
+/// 7, or where code 0 or 255 has other bytes than a list writes with it. Whether a table has such a row and column, and
+/// the centre, and whether the case makes so many readings, is not looked at: so bytes that no list wrote may pass.
 ///
 /// ```
 /// use mc33::{Choice, NotARow};
-/// let Ok(Choice::Tiled(tiling)) = Choice::try_from([6, 0, 0, 6]) else { panic!() };
+/// let Ok(Choice::Tiled(tiling)) = Choice::try_from([6, 0, 0, 6, 0, 3]) else { panic!() };
 /// assert_eq!((tiling.name(), tiling.centre, tiling.unsettled), ("4_2", false, 3));
-/// assert_eq!((tiling.unmatched, tiling.readings), (None, None));
-/// assert_eq!(Choice::try_from([0, 0, 0, 0]), Ok(Choice::Empty));
-/// let untiled = Choice::try_from([255, 0, 5, 0]);
+/// assert_eq!((tiling.unmatched, tiling.readings), (0, 3));
+/// assert_eq!(Choice::try_from([0; 6]), Ok(Choice::Empty));
+/// let untiled = Choice::try_from([255, 0, 5, 0, 0, 6]);
 /// assert!(matches!(untiled, Ok(Choice::Untiled { configuration: 0, sub_configuration: 5, .. })));
-/// assert_eq!(Choice::try_from([200, 0, 0, 0]), Err(NotARow::Bytes([200, 0, 0, 0])));
+/// assert_eq!(Choice::try_from([200, 0, 0, 0, 0, 0]), Err(NotARow::Bytes([200, 0, 0, 0, 0, 0])));
 /// ```
 impl TryFrom<[u8; ROW_BYTES]> for Choice {
     type Error = NotARow;
 
     fn try_from(row_bytes: [u8; ROW_BYTES]) -> Result<Choice, NotARow> {
-        let [code, row, column, last] = row_bytes;
-        choice_of(code, row, column, last % 2, last / 2, None, None)
+        let [code, row, column, rest, unmatched, readings] = row_bytes;
+        choice_of(code, row, column, rest % 2, rest / 2, unmatched, readings)
             .ok_or(NotARow::Bytes(row_bytes))
     }
 }
@@ -176,11 +175,14 @@ impl Display for NotARow {
                 )
             }
         };
-        let why = match bytes[0] {
-            0 => "with code 0 all bytes are 0",
-            255 => "with code 255 the last byte is 0",
-            1..=38 => "the last byte, centre + 2 × unsettled, is at most 7",
-            39..=254 => "the code is 0 to 38 or 255",
+        let [code, _, _, rest, unmatched, _] = bytes;
+        let why = match (code, rest, unmatched) {
+            (0, _, _) => "with code 0 all bytes are 0",
+            (255, _, _) => "with code 255 the last three bytes are 0, 0 and 6",
+            (39.., _, _) => "the code is 0 to 38 or 255",
+            (_, 8.., _) => "the fourth byte, centre + 2 × unsettled, is at most 7",
+            (_, _, 4..) => "the fifth byte, unmatched, is at most 3",
+            _ => "the last byte, readings, is at most 7",
         };
         write!(f, "{bytes:?} is no row of a list: {why}")
     }
@@ -232,21 +234,23 @@ mod tests {
             Choice::Untiled {
                 configuration,
                 sub_configuration,
-            } => [255, configuration, sub_configuration, 0],
+            } => [255, configuration, sub_configuration, 0, 0, 6],
             Choice::Tiled(t) => [
                 t.code,
                 t.row,
                 t.column,
                 u8::from(t.centre) + 2 * t.unsettled,
+                t.unmatched,
+                t.readings,
             ],
         }
     }
 
-    fn is_row([code, row, column, last]: [u8; ROW_BYTES]) -> bool {
+    fn is_row([code, row, column, rest, unmatched, readings]: [u8; ROW_BYTES]) -> bool {
         match code {
-            0 => [row, column, last] == [0; 3],
-            255 => last == 0,
-            _ => code <= 38 && last <= 7,
+            0 => [row, column, rest, unmatched, readings] == [0; 5],
+            255 => [rest, unmatched, readings] == [0, 0, 6],
+            _ => code <= 38 && rest <= 7 && unmatched <= 3 && readings <= 7,
         }
     }
 
@@ -262,10 +266,14 @@ mod tests {
     #[test]
     fn rows_are_read_without_loss_and_others_refused() {
         for code in 0..=255 {
-            for last in 0..=255 {
-                read([code, 0, 0, last]);
-                read([code, 0, 5, last]);
-                read([code, 23, 0, last]);
+            for byte in 0..=255 {
+                for few in 0..=8 {
+                    read([code, 0, 0, byte, 0, few]);
+                    read([code, 0, 0, few, byte, 0]);
+                    read([code, 0, 0, 0, few, byte]);
+                    read([code, 0, 5, byte, few, 6]);
+                    read([code, 23, 0, few, byte, 7]);
+                }
             }
         }
     }
@@ -273,23 +281,40 @@ mod tests {
     #[test]
     fn a_row_that_is_none_says_why() {
         let words = |row: [u8; ROW_BYTES]| Choice::try_from(row).unwrap_err().to_string();
-        let no_code = "[200, 0, 0, 0] is no row of a list: the code is 0 to 38 or 255";
-        assert_eq!(words([200, 0, 0, 0]), no_code);
-        assert!(words([4, 0, 0, 8]).ends_with("is at most 7"));
-        assert!(words([0, 0, 1, 0]).ends_with("with code 0 all bytes are 0"));
-        assert!(words([255, 0, 5, 1]).ends_with("with code 255 the last byte is 0"));
+        let no_code = "[200, 0, 0, 0, 0, 0] is no row of a list: the code is 0 to 38 or 255";
+        assert_eq!(words([200, 0, 0, 0, 0, 0]), no_code);
+        assert_eq!(
+            words([39, 0, 0, 9, 9, 9]),
+            no_code.replace("200, 0, 0, 0, 0, 0", "39, 0, 0, 9, 9, 9")
+        );
+        assert!(words([4, 0, 0, 8, 0, 0]).ends_with("2 × unsettled, is at most 7"));
+        assert!(words([4, 0, 0, 7, 4, 0]).ends_with("unmatched, is at most 3"));
+        assert!(words([38, 0, 0, 7, 3, 8]).ends_with("readings, is at most 7"));
+        for place in 1..ROW_BYTES {
+            let mut row = [0; ROW_BYTES];
+            row[place] = 1;
+            assert!(words(row).ends_with("with code 0 all bytes are 0"));
+        }
+        for row in [
+            [255, 0, 5, 1, 0, 6],
+            [255, 0, 5, 0, 1, 6],
+            [255, 0, 5, 0, 0, 0],
+        ] {
+            assert!(words(row).ends_with("with code 255 the last three bytes are 0, 0 and 6"));
+        }
         let part = NotARow::Length(7).to_string();
-        assert_eq!(part, "7 bytes are no whole number of rows, 4 bytes each");
+        assert_eq!(part, "7 bytes are no whole number of rows, 6 bytes each");
     }
 
     #[test]
     fn a_bad_row_stops_no_other() {
-        let answers = [4, 0, 0, 0, 200, 0, 0, 0, 0, 0, 0, 0];
-        let rows = rows(&answers).unwrap();
+        let answers = [[4, 0, 0, 0, 0, 1], [200, 0, 0, 0, 0, 0], [0; ROW_BYTES]];
+        let answers = answers.as_flattened();
+        let rows = rows(answers).unwrap();
         assert_eq!(rows.len(), 3);
         let found: Vec<_> = rows.collect();
         assert!(matches!(found[0], Ok(Choice::Tiled(t)) if t.name() == "3_2"));
-        assert_eq!(found[1], Err(NotARow::Bytes([200, 0, 0, 0])));
+        assert_eq!(found[1], Err(NotARow::Bytes([200, 0, 0, 0, 0, 0])));
         assert_eq!(found[2], Ok(Choice::Empty));
     }
 
@@ -304,7 +329,7 @@ mod tests {
 
     #[test]
     fn each_code_has_its_name() {
-        let Ok(Choice::Tiled(mut tiling)) = Choice::try_from([1, 0, 0, 0]) else {
+        let Ok(Choice::Tiled(mut tiling)) = Choice::try_from([1, 0, 0, 0, 0, 0]) else {
             panic!()
         };
         let mut name = |code| {

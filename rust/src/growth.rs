@@ -40,7 +40,7 @@ struct Refusals;
 /// ```
 ///
 /// ```compile_fail,E0639
-/// let tiling = mc33::Tiling { code: 1, row: 0, column: 0, centre: false, unsettled: 0, unmatched: None, readings: None };
+/// let tiling = mc33::Tiling { code: 1, row: 0, column: 0, centre: false, unsettled: 0, unmatched: 0, readings: 0 };
 /// ```
 ///
 /// ```compile_fail,E0639

@@ -38,7 +38,7 @@ pub use refusal::{ListRefused, Refusal};
 use library::{Mc33Choice, Mc33Edge, Mc33Face, Mc33Outcome};
 
 /// The version of the library that this crate was written for: (major, minor).
-pub const VERSION: (u32, u32) = (4, 0);
+pub const VERSION: (u32, u32) = (5, 0);
 
 /// The version of the library that is linked: (major, minor).
 ///
@@ -82,7 +82,7 @@ impl From<Cube> for [f32; 8] {
 /// // Corners 2 and 5 are on no diagonal together: the three picks have no match, and edge 0 is left over.
 /// let unpaired = Cube([-1.0, -1.0, 1.0, -1.0, -1.0, 1.0, -1.0, -1.0]);
 /// let Ok(Choice::Tiled(tiling)) = choose(4, 0, unpaired) else { panic!() };
-/// assert_eq!((tiling.unsettled, tiling.unmatched, tiling.readings), (0, Some(3), Some(3)));
+/// assert_eq!((tiling.unsettled, tiling.unmatched, tiling.readings), (0, 3, 3));
 /// assert_eq!(choose(4, 8, cube), Err(Refusal::NoConfiguration));
 /// assert_eq!(choose(0, -1, cube), Ok(Choice::Empty));
 /// ```
@@ -104,7 +104,6 @@ fn choice_said(said: Mc33Choice) -> Result<Choice, Refusal> {
         readings,
         ..
     } = said;
-    let (unmatched, readings) = (Some(unmatched), Some(readings));
     choice::choice_of(code, row, column, centre, unsettled, unmatched, readings)
         .ok_or(refusal::NO_NAME)
 }
@@ -242,15 +241,15 @@ pub fn root_bits(bits: u32) -> u32 {
 /// ```
 /// use mc33::{choose_list, Refusal};
 /// let mut corners = [1.0, -1.0, 1.0, -1.0, -1.0, -1.0, -1.0, -1.0, 3.0, -1.0, -1.0, -1.0, -1.0, -1.0, 3.0, -1.0];
-/// let mut answers = [7; 9];
+/// let mut answers = [7; 13];
 /// assert_eq!(choose_list(&corners, &[3, 0, 4, 0], &mut answers), Ok(()));
-/// assert_eq!(answers, [4, 0, 0, 0, 6, 0, 0, 6, 7]);
+/// assert_eq!(answers, [4, 0, 0, 0, 0, 1, 6, 0, 0, 6, 0, 3, 7]);
 ///
 /// corners[15] = f32::INFINITY;
-/// answers = [7; 9];
+/// answers = [7; 13];
 /// let error = choose_list(&corners, &[3, 0, 4, 0], &mut answers).unwrap_err();
 /// assert_eq!((error.refusal, error.place), (Refusal::NotFinite, 1));
-/// assert_eq!(answers, [7; 9]);
+/// assert_eq!(answers, [7; 13]);
 /// ```
 pub fn choose_list(corners: &[f32], numbers: &[i8], answers: &mut [u8]) -> Result<(), ListRefused> {
     list_said(library::list(corners, numbers, answers))

@@ -51,7 +51,7 @@ impl Refusal {
             NoFace => (4, "the face number is not -6..-1 or 1..6"),
             NoEdge => (5, "the edge number is not 0..11"),
             UnevenLists => (6, "the list has not 8 corner values and 2 numbers a cube"),
-            NoRoom => (7, "the list has fewer than 4 answer bytes a cube"),
+            NoRoom => (7, "the list has fewer than 6 answer bytes a cube"),
             Malformed => (8, "the line is malformed"),
             Unknown { number } => (number, "this version of the crate has no name for it"),
         }

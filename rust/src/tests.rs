@@ -46,7 +46,7 @@ fn each_refusal_of_the_library_has_its_name() {
         (test_face(cube, 0).unwrap_err(), Refusal::NoFace),
         (read_edge(cube, 12).unwrap_err(), Refusal::NoEdge),
         (
-            listed(&[3, 0, 4, 0], &mut [0; 8]).refusal,
+            listed(&[3, 0, 4, 0], &mut [0; 2 * ROW_BYTES]).refusal,
             Refusal::UnevenLists,
         ),
         (
@@ -95,10 +95,7 @@ fn a_choice_without_a_name_is_refused() {
         ),
         other => panic!("{other:?}"),
     };
-    assert_eq!(
-        tiling(choice_said(PLAIN)),
-        ((4, 1, 2, true), (3, Some(2), Some(7)))
-    );
+    assert_eq!(tiling(choice_said(PLAIN)), ((4, 1, 2, true), (3, 2, 7)));
     let [mut code, mut centre, mut unsettled, mut unmatched, mut readings] = [PLAIN; 5];
     code.code = 200;
     centre.centre = 2;

@@ -9,7 +9,7 @@ use Rattle.put.specs.Decimal.{decimal}
 use Rattle.put.proofs.Placed.{placed-after}
 use Rattle.put.proofs.Digits.{decimal-long}
 use Rattle.answer.specs.Answer.{fields, refusedWord, refusedLine}
-use Rattle.answer.specs.Room.{lineRoom, choiceRoom}
+use Rattle.answer.specs.Room.{lineRoom, countsRoom, choiceRoom}
 
 -- text put into xs at a place leaves ys, and the place after it
 abbrev pub Put : List ℕ → ℕ → List ℕ → List ℕ → ℕ → Type 0
@@ -35,9 +35,9 @@ field-put xs at n ys i after zs r room ((e, h), p) (f, q) =
     let all = joined xs at (decimal n) ys i (after ∷ []) zs r (omega (arith, f)) (e, p) (f, q) in
     ((all .0, omega (arith, f)), all .1)
 
-pub three-put : (a b c : ℕ) (xs : List ℕ) (at : ℕ) (s : List ℕ) (i : ℕ) (t : List ℕ) (j : ℕ) (ys : List ℕ) (r : ℕ) → at + 12 ≤ length xs
+pub three-put : (a b c : ℕ) (xs : List ℕ) (at : ℕ) (s : List ℕ) (i : ℕ) (t : List ℕ) (j : ℕ) (ys : List ℕ) (r : ℕ) → at + countsRoom ≤ length xs
     → Field xs at a 32 s i → Field s i b 32 t j → Field t j c 10 ys r
-    → let text = fields (a ∷ b ∷ c ∷ []) in ((r ≡ at + length text) × (r ≤ at + 12)) × (ys ≡ placed xs at text)
+    → let text = fields (a ∷ b ∷ c ∷ []) in ((r ≡ at + length text) × (r ≤ at + countsRoom)) × (ys ≡ placed xs at text)
 unfolding fields
 three-put a b c xs at s i t j ys r room ((e1, h1), p1) ((e2, h2), p2) ((e3, h3), p3) =
     let text = fields (a ∷ b ∷ c ∷ []) in
@@ -48,7 +48,7 @@ three-put a b c xs at s i t j ys r room ((e1, h1), p1) ((e2, h2), p2) ((e3, h3),
 
 -- four more in front
 pub fields-put : (a b c d n : ℕ) (ns xs : List ℕ) (at : ℕ) (s : List ℕ) (i : ℕ) (t : List ℕ) (j : ℕ) (u : List ℕ) (k : ℕ) (v : List ℕ) (l : ℕ) (ys : List ℕ) (r : ℕ) → at + choiceRoom ≤ length xs
-    → Field xs at a 32 s i → Field s i b 32 t j → Field t j c 32 u k → Field u k d 32 v l → ((r ≡ l + length (fields (n ∷ ns))) × (r ≤ l + 12)) × (ys ≡ placed v l (fields (n ∷ ns)))
+    → Field xs at a 32 s i → Field s i b 32 t j → Field t j c 32 u k → Field u k d 32 v l → ((r ≡ l + length (fields (n ∷ ns))) × (r ≤ l + countsRoom)) × (ys ≡ placed v l (fields (n ∷ ns)))
     → let text = fields (a ∷ b ∷ c ∷ d ∷ n ∷ ns) in ((r ≡ at + length text) × (r ≤ at + choiceRoom)) × (ys ≡ placed xs at text)
 unfolding fields
 fields-put a b c d n ns xs at s i t j u k v l ys r room ((e1, h1), p1) ((e2, h2), p2) ((e3, h3), p3) ((e4, h4), p4) ((e5, h5), p5) =

@@ -12,7 +12,7 @@ ghost use Rattle.put.specs.Placed.{placed};
 ghost use Rattle.put.specs.Decimal.{decimal};
 ghost use Rattle.answer.specs.Answer.{same, inputNames, fields, counts, numbers, choiceLine, BareLines};
 ghost use Rattle.answer.specs.Answer.{refusedLine, choiceReply, replyTo, printed, ends};
-ghost use Rattle.answer.specs.Room.{lineRoom, choiceRoom, namesMore};
+ghost use Rattle.answer.specs.Room.{lineRoom, countsRoom, choiceRoom, namesMore};
 use choice::Answer;
 use cube::Refusal;
 use line::Line;
@@ -38,8 +38,8 @@ fn put_field(n: u8, after: u8, out: &mut [u8], at: usize) -> usize
 
 // What was counted, single spaces, and a newline.
 fn put_counts(notes: Notes, out: &mut [u8], at: usize) -> usize
-    requires { ⌜ (at + 12 ≤ length (now out)) × (notes .readings ≤ 255) ⌝ }
-    ensures place { λ r. ⌜ (r ≡ at + length (fields (counts notes))) × (r ≤ at + 12) ⌝ }
+    requires { ⌜ (at + countsRoom ≤ length (now out)) × (notes .readings ≤ 255) ⌝ }
+    ensures place { λ r. ⌜ (r ≡ at + length (fields (counts notes))) × (r ≤ at + countsRoom) ⌝ }
     ensures text { λ _. ⌜ now (out .exit) ≡ placed (now (out .entry)) at (fields (counts notes)) ⌝ }
 {
     let i = put_field(notes.unsettled, b' ', out, at);

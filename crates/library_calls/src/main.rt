@@ -19,7 +19,7 @@ use cube::Cube;
 use line::Line;
 
 // Answer bytes for 300 cubes, and for two rows more.
-const ROOM: usize = 1208;
+const ROOM: usize = 1812;
 
 // A space and the number.
 fn print_number(n: u64) {

@@ -40,10 +40,16 @@ module _ (xs : List Float) (ns : List ℤ) where
     abbrev Promised : Result → List ℕ → Type 0
     Promised r zs = (r ≡ resultOf xs ns (length ys)) × ((zs ≡ answersOf xs ns ys) × (ListTries × (OldRows × (BareRows × (r ≡ done → InPlace xs ns zs)))))
 
+    stands : (r : Result) (zs : List ℕ) → zs ≡ answersBy r (rowsOf xs ns (cubes xs)) ys → r ≡ done → InPlace xs ns zs
+    stands r zs f e i h =
+        let rows = rowsOf xs ns (cubes xs) in
+        ap (λ (us : List ℕ). block width us i) (f ∙ ap (λ (r : Result). answersBy r rows ys) e) ∙ in-place xs ns (cubes xs) _ i h
+
     promised : (r : Result) (zs : List ℕ) → r ≡ resultOf xs ns (length ys) → zs ≡ answersBy r (rowsOf xs ns (cubes xs)) ys → Promised r zs
     unfolding answersOf
     promised r zs e f =
-        (e, (f ∙ ap (λ (r : Result). answersBy r (rowsOf xs ns (cubes xs)) ys) e, (tries-hold, (old-rows, (bare-rows, λ d i h. ap (λ (us : List ℕ). block width us i) (f ∙ ap (λ (r : Result). answersBy r (rowsOf xs ns (cubes xs)) ys) d) ∙ in-place xs ns (cubes xs) _ i h)))))
+        let answers = f ∙ ap (λ (r : Result). answersBy r (rowsOf xs ns (cubes xs)) ys) e in
+        (e, (answers, (tries-hold, (old-rows, (bare-rows, stands r zs f)))))
 
     -- by the two tests
     tested : (b d : Bool) → lengthsAgree xs ns ≡ b → leb (width * cubes xs) (length ys) ≡ d

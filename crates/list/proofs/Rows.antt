@@ -1,5 +1,5 @@
 -- Rows one after another. Assumes nothing.
-use mathlib.Core.Path.{_≡_, refl, sym, ap, subst, _∙_}
+use mathlib.Core.Path.{_≡_, refl, sym, ap, _∙_}
 use mathlib.Core.List.{List, _++_, append-assoc}
 use Prim.Native.Nat.{ℕ, zero, suc, _+_, _*_, _≤_, _<_}
 use native.Mathlib.Nat.{not-suc-le-zero}
@@ -31,17 +31,23 @@ module _ (xs : List Float) (ns : List ℤ) where
       let e = rows-length k in
       omega arith
 
-  -- whatever follows them
+  -- each at its cube's place, whatever follows them
+  last-in-place : (k : ℕ) (rest : List ℕ) (i : ℕ) → i ≡ k → block width (rowsOf xs ns k ++ (bytesOf (choiceAt xs ns k) ++ rest)) i ≡ bytesOf (choiceAt xs ns i)
+  last-in-place k rest i e =
+      let row = bytesOf (choiceAt xs ns k) in
+      ap (block width (rowsOf xs ns k ++ (row ++ rest))) e
+      ∙ block-append width (rowsOf xs ns k) row rest k (rows-length k) (bytes-length (choiceAt xs ns k))
+      ∙ ap (λ (j : ℕ). bytesOf (choiceAt xs ns j)) (sym e)
+
   pub in-place : (n : ℕ) (rest : List ℕ) (i : ℕ) → i < n → block width (rowsOf xs ns n ++ rest) i ≡ bytesOf (choiceAt xs ns i)
   unfolding rowsOf
   in-place zero rest i h = absurd (not-suc-le-zero h)
   in-place (suc k) rest i h =
-      let rows = rowsOf xs ns k in
       let row = bytesOf (choiceAt xs ns k) in
-      ap (λ (ys : List ℕ). block width ys i) (append-assoc rows row rest)
+      ap (λ (ys : List ℕ). block width ys i) (append-assoc (rowsOf xs ns k) row rest)
       ∙ cases (ltb i k)
       (λ before. in-place k (row ++ rest) i (ltb-true i k before))
-      (λ here. let last = ltb-false i k here in let same : i ≡ k = omega arith in subst (λ (j : ℕ). block width (rows ++ (row ++ rest)) j ≡ bytesOf (choiceAt xs ns j)) (sym same) (block-append width rows row rest k (rows-length k) (bytes-length (choiceAt xs ns k))))
+      (λ here. let last = ltb-false i k here in last-in-place k rest i (omega arith))
 
   -- a turn of the loop that puts the rows
   pub rows-again : (before ys zs : List ℕ) (i : ℕ) (r : Row) → width * i + width ≤ length before → length ys ≡ length before → ys ≡ placed before 0 (rowsOf xs ns i)

@@ -9,7 +9,8 @@ use Rattle.answer.specs.Answer.{Reply, answer, refusal, replyTo, refusedLine}
 use Rattle.answer.specs.Room.{lineRoom}
 use Rattle.text.specs.Run.{atEnd, runFrom, run}
 
--- what a block writes has at most so many bytes more than the block: the output's names have 16 more than the input's, newlines counted, and lines 0 and 1 name; then one answer
+-- room for what a block comes to beyond its own length: an answer, and 16 bytes for each of the lines 0 and 1, which
+-- ask for the names: with their newlines the output's have so many more than the input's
 abbrev pub blockRoom : ℕ
 blockRoom = 32 + lineRoom
 
