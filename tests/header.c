@@ -97,7 +97,25 @@ static void sizes(void)
     held(sizeof(mc33_cube) == 32, "a cube has 32 bytes", (int)sizeof(mc33_cube));
     held(mc33_list(corners, 16, numbers, 4, answers, sizeof answers).refusal == 0, "room for two rows", 0);
     held(mc33_list(corners, 16, numbers, 4, answers, sizeof answers - 1).refusal == MC33_NO_ROOM, "a byte less", 0);
+    held(mc33_list(corners, 16, numbers, 4, answers, 4 * 2).refusal == MC33_NO_ROOM, "two rows of before 5.0", 0);
     held(mc33_version() == MC33_VERSION, "the version", (int)mc33_version());
+}
+
+/* A row has the numbers of the choice in their order. */
+static void rows(void)
+{
+    mc33_cube cube = {{-1, -1, 1, -1, -1, 1, -1, -1}};
+    int8_t numbers[2] = {0, 0};
+    uint8_t row[MC33_ROW_BYTES];
+    int case_number;
+    for (case_number = 1; case_number < 15; case_number++) {
+        mc33_choice choice = mc33_choose((int8_t)case_number, 0, cube);
+        numbers[0] = (int8_t)case_number;
+        held(mc33_list(cube.c, 8, numbers, 2, row, sizeof row).refusal == 0, "a list of one cube", case_number);
+        held(row[0] == choice.code && row[1] == choice.row && row[2] == choice.column, "its tiling", case_number);
+        held(row[3] == choice.centre + 2 * choice.unsettled, "its fourth byte", row[3]);
+        held(row[4] == choice.unmatched && row[5] == choice.readings, "its last bytes", case_number);
+    }
 }
 
 int main(void)
@@ -107,6 +125,7 @@ int main(void)
     texts();
     counts();
     sizes();
+    rows();
     printf(wrong ? "header: %d wrong\n" : "header: as the library has it\n", wrong);
     return wrong != 0;
 }
