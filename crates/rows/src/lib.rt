@@ -1,5 +1,5 @@
 // One cube of a list and its row of answer bytes: document 01, 'List', with the six bytes of document 02, Change 10.
-// Inner routines of whatever makes rows: what they require is theirs to see to.
+// Inner routines, for what makes rows and is proved to meet what they require.
 ghost use mathlib.Core.Path.{_≡_};
 ghost use Prim.Native.Nat.{_+_, _*_, _/_, _≤_, _<_};
 ghost use lib.ListN.{length};
