@@ -1,6 +1,6 @@
-// The answer to one line of the input: document 01, 'Program', with the seven numbers of document 02, Change 10. `print_choice` prints a choice's line,
-// `put_malformed` the line of refusal 8, `answer_line` answers a line. Inner routines of the text program,
-// which lends them room.
+// The answer to one line of the input: document 01, 'Program', with the seven numbers of document 02, Change 10.
+// `print_choice` prints a choice's line, `put_malformed` the line of refusal 8, `answer_line` answers a line. Inner
+// routines of the text program, which lends them room.
 ghost use mathlib.Core.Path.{_≡_};
 ghost use mathlib.Core.Bool.{true, false};
 ghost use mathlib.Core.List.{[], _∷_, _++_};

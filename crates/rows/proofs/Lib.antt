@@ -1,3 +1,4 @@
 pub mod Cubes
 pub mod Rows
 pub mod Parts
+mod Controls
