@@ -1,4 +1,6 @@
 // Lower-case hex digits in a line of text. Public: `pair`, `word`.
+#![tactic(auto)]
+
 ghost use Rattle.std.specs.Prelude.{◌≡◌, ◌+◌, ◌≤◌, length};
 ghost use Rattle.hex_digits.specs.Hex.{digit_of, joined, pair_of, half_of, word_of};
 

@@ -1,6 +1,8 @@
 // Text put at a place of a slice: bytes, a run of bytes, and numbers in decimal digits. Each function
 // answers the place after what it put. Inner routines of the text program. Public: `byte`, `bytes`,
 // `decimal`, `small`, `to_front`.
+#![tactic(auto)]
+
 ghost use Rattle.std.specs.Prelude.{◌≡◌, [], ◌∷◌, ◌+◌, ◌-◌, ◌≤◌, ◌<◌, length, take, drop};
 ghost use Rattle.put.specs.Placed.{placed};
 ghost use Rattle.put.specs.Decimal.{decimal};
