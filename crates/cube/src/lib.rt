@@ -1,6 +1,8 @@
 // The cube's types: document 01, 'Places and their forms', with its refusals by name.
 // `Cube` holds the eight corner values; `Face`, `EdgeNo` and `Corner` keep the three kinds of number
 // apart. Public: `take_apart`, `corner_in`, `values`, `value_at`, `value_in`, `all_finite`, `number`.
+#![tactic(auto)]
+
 ghost use Rattle.std.specs.Prelude.{◌≡◌, not, T, eqb};
 ghost use Rattle.cube.specs.Corners.{corners, digit_of, value_at, all_finite};
 ghost use Rattle.cube.specs.Signs.{split_value};

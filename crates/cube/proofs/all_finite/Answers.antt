@@ -6,8 +6,7 @@ use lib.Ieee.{Float, binary32, add, sub, eq, of_bits}
 use lib.Ieee.Scale.{finite}
 use Rattle.binary32.proofs.Finite.{minus_itself, both_finite, is_nought}
 use Rattle.cube.specs.Corners.{corners, all_finite}
-use Rattle.cube.proofs.all_finite.Statement.{statement}
-use Rattle.cube.proofs.all_finite.Tie as tie
+use Rattle.cube.proofs.all_finite.Goals as goal
 
 exchanged : (p q r s : Bool) → p && q && (r && s) ≡ p && r && (q && s)
 exchanged false q r s = refl
@@ -26,9 +25,6 @@ told : (a b c d e f g h : Float)
     ≡ foldr ◌&&◌ true (map finite (a ∷ b ∷ c ∷ d ∷ e ∷ f ∷ g ∷ h ∷ []))
 told a b c d e f g h = simp (minus_itself, both_finite, is_nought, and-true) (reorder (finite a) (finite b) (finite c) (finite d) (finite e) (finite f) (finite g) (finite h))
 
-returns : tie.Need-returns
+pub returns : goal.returns
 unfolding corners all_finite
 returns c = told _ _ _ _ _ _ _ _
-
-pub all_finite_spec : {M : Type 1} → statement M
-all_finite_spec = tie.close (tie.spec returns)
