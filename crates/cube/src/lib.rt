@@ -12,7 +12,7 @@ pub mod bits;
 
 // The corner values c0 to c7, one after the other as C has them.
 #[repr(C)]
-#[derive(Drop)]
+#[derive(Clone, Copy)]
 pub struct Cube {
     pub c0: f32,
     pub c1: f32,
@@ -25,19 +25,19 @@ pub struct Cube {
 }
 
 // A signed face number: -6..-1 and 1..6 are faces.
-#[derive(Drop)]
+#[derive(Clone, Copy)]
 pub struct Face(pub i8);
 
 // An edge number: 0..11 are edges.
-#[derive(Drop)]
+#[derive(Clone, Copy)]
 pub struct EdgeNo(pub i8);
 
 // A corner number: 0..7 are corners.
-#[derive(Drop)]
+#[derive(Clone, Copy)]
 pub struct Corner(pub u8);
 
 // Why something is refused. `number` gives document 01's number, and never 9 (document 02, 'Change 12').
-#[derive(Drop)]
+#[derive(Clone, Copy)]
 pub enum Refusal {
     NoCase,
     NoConfiguration,
@@ -66,7 +66,7 @@ pub fn number(why: Refusal) -> u8
 }
 
 // A signed number taken apart: `NotBelow(k)` is k, and `Below(k)` is -1 - k.
-#[derive(Drop)]
+#[derive(Clone, Copy)]
 pub enum Split {
     NotBelow(u8),
     Below(u8),
