@@ -1,5 +1,7 @@
 // What a choice counts on its way: document 01, 'A choice', and document 02, Changes 4 and 7. `none`, `tests`, `look` and `add` alone set the
 // fields; they are read where an answer is written.
+#![tactic(auto)]
+
 ghost use Rattle.std.specs.Prelude.{◌≡◌, ◌+◌, ◌≤◌};
 ghost use Rattle.notes.specs.Notes.{no_notes, tests_of, look_of, added, total};
 
@@ -7,7 +9,7 @@ ghost use Rattle.notes.specs.Notes.{no_notes, tests_of, look_of, added, total};
 // diagonal picks without a match (Change 4). Readings: the face tests, edge readings and case-13 tests (Change 7), in
 // sixteen bits: with eight a choice and its counts were eight bytes, of which the compiler makes one word that each way
 // packs and unpacks.
-#[derive(Drop)]
+#[derive(Clone, Copy)]
 pub struct Notes {
     pub unsettled: u8,
     pub unmatched: u8,

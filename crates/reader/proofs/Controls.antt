@@ -3,7 +3,7 @@
 use mathlib.Core.Path.{◌≡◌, refl}
 use mathlib.Core.List.{List, [], ◌∷◌, ◌++◌, map}
 use Prim.Native.Nat.{ℕ}
-use lib.Ieee.{Float, binary32, of_bits}
+use lib.Ieee.{binary32, of_bits}
 use Rattle.cube.specs.declared.Cube.{Cube}
 use Rattle.cube.specs.Corners as Corners
 use Rattle.reader.specs.declared.Step.TheVariants as step

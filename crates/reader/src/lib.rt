@@ -2,6 +2,8 @@
 // holds the lent corner list and its place. A place counts cubes. No routine changes a `Reader`: `here`
 // answers for its place, and `moved` makes one at another place.
 // Public: `new`, `here`, `moved`, `read_at`.
+#![tactic(auto)]
+
 ghost use Rattle.std.specs.Prelude.{◌≡◌};
 ghost use Rattle.reader.specs.Reader.{standing, step_at};
 
