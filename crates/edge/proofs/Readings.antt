@@ -1,13 +1,13 @@
 -- The reading of four moves, from the tests as the code makes them. Assumes nothing.
 use mathlib.Core.Path.{◌≡◌, refl, sym, ◌∙◌}
-use mathlib.Core.Bool.{Bool, true, false, cond, not, ◌||◌, true≢false}
+use mathlib.Core.Bool.{Bool, true, false, cond, ◌||◌, true≢false}
 use Prim.Native.Nat.{◌*◌}
 use borrow.Author.Tests.{eq-eqb}
 use lib.Ieee.{Float, nan, inf, fin, binary32, up, down, neg, add, sub, mul, div, lt, eq, ne, is_nan, of_bits}
 use Rattle.binary32.specs.Numbers.{f32}
 use Rattle.binary32.proofs.Magnitudes.{mul_nan}
 use Rattle.edge.specs.declared.Moves.{Moves}
-use Rattle.edge.specs.Edge.{Told, rising, beyond, crossed, blank, a_of, b_of, cross_by, read_by}
+use Rattle.edge.specs.Edge.{rising, beyond, crossed, blank, a_of, b_of, cross_by, read_by}
 use Rattle.edge.specs.Moves.{product_of, read_of}
 
 -- a move's place at t
@@ -49,22 +49,22 @@ module _ {A : Type 0} (x y z w : A) where
   abbrev by_tests : Bool → Bool → Bool → A
   by_tests r o n = cond r x (cond o y (cond n z w))
 
-  none_holds : (r o n : Bool) → not ((r || o) || n) ≡ true → w ≡ by_tests r o n
-  none_holds true o n e = absurd (true≢false (sym e))
-  none_holds false true n e = absurd (true≢false (sym e))
-  none_holds false false true e = absurd (true≢false (sym e))
+  none_holds : (r o n : Bool) → (r || o) || n ≡ false → w ≡ by_tests r o n
+  none_holds true o n e = absurd (true≢false e)
+  none_holds false true n e = absurd (true≢false e)
+  none_holds false false true e = absurd (true≢false e)
   none_holds false false false e = refl
 
-  last_holds : (r o n : Bool) → not ((r || o) || n) ≡ false → not (r || o) ≡ true → z ≡ by_tests r o n
-  last_holds true o n g e = absurd (true≢false (sym e))
-  last_holds false true n g e = absurd (true≢false (sym e))
+  last_holds : (r o n : Bool) → (r || o) || n ≡ true → r || o ≡ false → z ≡ by_tests r o n
+  last_holds true o n g e = absurd (true≢false e)
+  last_holds false true n g e = absurd (true≢false e)
   last_holds false false true g e = refl
-  last_holds false false false g e = absurd (true≢false g)
+  last_holds false false false g e = absurd (true≢false (sym g))
 
-  second_holds : (r o n : Bool) → not (r || o) ≡ false → r ≡ false → y ≡ by_tests r o n
+  second_holds : (r o n : Bool) → r || o ≡ true → r ≡ false → y ≡ by_tests r o n
   second_holds true o n g e = absurd (true≢false e)
   second_holds false true n g e = refl
-  second_holds false false n g e = absurd (true≢false g)
+  second_holds false false n g e = absurd (true≢false (sym g))
 
 -- the bits of 1 and 2 are 0x3f800000 and 0x40000000
 module _ (m : Moves) (a b p : Float) (ea : a ≡ a_of f32 m.g1 m.g2 m.g3 m.g4) (eb : b ≡ b_of f32 m.u1 m.u2 m.u3 m.u4 m.g1 m.g2 m.g3 m.g4) where
@@ -82,14 +82,14 @@ module _ (m : Moves) (a b p : Float) (ea : a ≡ a_of f32 m.g1 m.g2 m.g3 m.g4) (
     unfolding read_of read_by cross_by of_bits
     read_by_lem = rw (← ea, ← eb, product_tells m t, ← ep, ← unlike_itself p)
 
-    pub by_crossed : not ((rises || outside) || ne p p) ≡ true → crossed t p ≡ read_of m
+    pub by_crossed : (rises || outside) || ne p p ≡ false → crossed t p ≡ read_of m
     by_crossed e = none_holds _ _ _ _ rises outside (ne p p) e ∙ read_by_lem
 
-    pub by_blank : not ((rises || outside) || ne p p) ≡ false → not (rises || outside) ≡ true → blank ≡ read_of m
+    pub by_blank : (rises || outside) || ne p p ≡ true → rises || outside ≡ false → blank ≡ read_of m
     by_blank g e = last_holds _ _ _ _ rises outside (ne p p) g e ∙ read_by_lem
 
     pub by_rising : rises ≡ true → rising ≡ read_of m
     by_rising e = rw (← read_by_lem, e)
 
-    pub by_beyond : not (rises || outside) ≡ false → rises ≡ false → beyond t ≡ read_of m
+    pub by_beyond : rises || outside ≡ true → rises ≡ false → beyond t ≡ read_of m
     by_beyond g e = second_holds _ _ _ _ rises outside (ne p p) g e ∙ read_by_lem

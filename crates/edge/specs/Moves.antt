@@ -5,7 +5,7 @@ use Rattle.std.specs.Float.{binary32}
 use Rattle.std.specs.Float.Ieee.{sub}
 use Rattle.binary32.specs.Numbers.{f32}
 use Rattle.edge.specs.declared.Moves.{Moves}
-use Rattle.edge.specs.Edge.{Told, move_of, Quotients, quotients, read_by}
+use Rattle.edge.specs.Edge.{Told, move_of, quotients, read_by}
 
 -- by the corners' values
 unfoldable pub moves_of : (ℕ → Float) → ℤ → Moves

@@ -1,6 +1,8 @@
 // The edge reading: document 01, 'Edge reading'. Public: `interior_ambiguity_verification`, which
 // refuses; for callers that have tested their cube and edge `moves_of`, the moves of an edge, and `read`, what is
 // read by them; and `a_of`, `b_of` and `place_at`, which the case-13 test needs too.
+#![tactic(auto)]
+
 ghost use Rattle.std.specs.Prelude.{◌≡◌};
 ghost use Rattle.std.specs.Float.{binary32};
 ghost use Rattle.std.specs.Float.Ieee.{add, mul};
@@ -14,7 +16,7 @@ use cube::{Cube, EdgeNo, Refusal, Split};
 
 // What is read at an edge: `Rising` where a > 0, `Beyond` with t where t < 0 or t > 1, `Crossed` with t and the
 // product, or `Blank` where t or the product is NaN.
-#[derive(Drop)]
+#[derive(Clone, Copy)]
 pub enum Reading {
     Rising,
     Beyond(f32),
@@ -23,14 +25,14 @@ pub enum Reading {
 }
 
 // What the edge reading says.
-#[derive(Drop)]
+#[derive(Clone, Copy)]
 pub enum EdgeAnswer {
     Read(Reading),
     Refused(Refusal),
 }
 
 // The four moves u→v of an edge: the value at u, and g = v - u.
-#[derive(Drop)]
+#[derive(Clone, Copy)]
 pub struct Moves {
     pub u1: f32,
     pub u2: f32,
