@@ -1,6 +1,8 @@
 // The face test: document 01, 'Face test'. Public: `test_face`, which refuses, and `face_answer`, the
 // rule alone, for callers that have tested their cube and face; `size` and `place`, the face without its sign, and
 // `square_of`, the values at its corners.
+#![tactic(auto)]
+
 ghost use Rattle.std.specs.Prelude.{◌≡◌, nat_abs};
 ghost use Rattle.binary32.specs.Numbers.{f32};
 ghost use Rattle.face.specs.Face.{rule, face_of, said, test_face_of};
@@ -10,14 +12,14 @@ ghost use Rattle.face.specs.Laws.{FaceLawsAt, FaceLawsOf};
 use cube::{Cube, Face, Refusal, Split};
 
 // What the face test says.
-#[derive(Drop)]
+#[derive(Clone, Copy)]
 pub enum FaceAnswer {
     Answer(bool),
     Refused(Refusal),
 }
 
 // The values at the corners of a face, in the face's order.
-#[derive(Drop)]
+#[derive(Clone, Copy)]
 pub struct Square {
     pub a: f32,
     pub b: f32,
