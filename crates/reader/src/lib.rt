@@ -71,7 +71,7 @@ pub fn moved<'a>(r: Reader<'a>, at: usize) -> Reader<'a>
 
 // The way in for a caller with a plain list and a place.
 pub fn read_at(corners: &[f32], at: usize) -> Step
-    ensures { standing result ≡ step_at corners.now at }
+    ensures stands { standing result ≡ step_at corners.now at }
 {
     here(moved(new(corners), at))
 }
