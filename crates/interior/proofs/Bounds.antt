@@ -11,7 +11,6 @@ use Rattle.binary32.specs.Numbers.{Numbers, f32}
 use Rattle.cube.specs.declared.Cube.{Cube}
 use Rattle.cube.specs.Corners.{corner_of}
 use Rattle.edge.specs.Edge.{Told, Quotients, edge_by, quotients}
-use Rattle.notes.specs.declared.Notes.{Notes}
 use Rattle.notes.proofs.Bounds.{AtMost, looks_of, at_most_one, one_more}
 use Rattle.interior.specs.declared.Sight.{Sight}
 use Rattle.interior.specs.Pick.{Picked, pick_by}

@@ -1,6 +1,8 @@
 // The diagonal pick and the interior test: document 01, 'Diagonal pick' and 'Interior test'. Inner
 // routines for the choice, which has tested its cube. Public: `test_interior`, `test_interior_two`,
 // `test_interior_three`.
+#![tactic(auto)]
+
 ghost use Rattle.std.specs.Prelude.{◌≡◌, ◌+◌, ◌≤◌, [], ◌∷◌, T, pos};
 ghost use Rattle.binary32.specs.Numbers.{f32};
 ghost use Rattle.edge.specs.Edge.{quotients, valued, told, is_edge};
@@ -16,15 +18,15 @@ use edge::{Moves, Reading};
 use notes::Notes;
 
 // The face that a pick is made for: 1 to 6.
-#[derive(Drop)]
+#[derive(Clone, Copy)]
 pub struct AmbiguousFace(pub u32);
 
 // The signed number s of an interior test.
-#[derive(Drop)]
+#[derive(Clone, Copy)]
 pub struct Side(pub i8);
 
 // What an interior test sees: whether a reading's value was 1, and what was counted.
-#[derive(Drop)]
+#[derive(Clone, Copy)]
 pub struct Sight {
     pub hit: bool,
     pub notes: Notes,
@@ -32,14 +34,14 @@ pub struct Sight {
 
 // What the diagonal pick picks: the edge, and whether any pair matched. Edge 0 may be picked by a match, or be left
 // over where there is none.
-#[derive(Drop)]
+#[derive(Clone, Copy)]
 struct Pick {
     pub edge: EdgeNo,
     pub matched: bool,
 }
 
 // Which of the pairs (0,6), (1,7), (2,4) and (3,5) match.
-#[derive(Drop)]
+#[derive(Clone, Copy)]
 struct Diagonals {
     pub from0: bool,
     pub from1: bool,
