@@ -1,4 +1,6 @@
 // Term 3, two cubes that meet at a face: document 01, 'Face test'. Public: `compare_faces`, which refuses.
+#![tactic(auto)]
+
 ghost use Rattle.std.specs.Prelude.{◌≡◌, ◌&&◌};
 ghost use Rattle.face.specs.Columns.{place_of};
 ghost use Rattle.face.specs.Laws.{in_range, up_and_down, alternate};
@@ -9,7 +11,7 @@ use face::{Square, face_answer, place, square_of};
 
 // What the comparison of two faces says: whether the answers are equal, or that the faces do not meet
 // with the same alternating values in range.
-#[derive(Drop)]
+#[derive(Clone, Copy)]
 pub enum Compared {
     Equal(bool),
     Apart,
