@@ -1,5 +1,6 @@
 -- The search for a whole root, digit by digit: it ends at the root, and each digit leaves one digit less. Assumes nothing.
 use mathlib.Core.Path.{◌≡◌, sym, ap, ◌∙◌, subst}
+use mathlib.Core.Logic.{◌⊎◌, inl, inr}
 use Prim.Native.Nat.{ℕ, zero, suc, ◌+◌, ◌-◌, ◌/◌, ◌^◌, ◌≤◌, ◌<◌}
 use native.Mathlib.Nat.{lt_of_le_of_lt, lt_irrefl, two-pow-succ}
 use native.Mathlib.Numerals.{sub-one}
@@ -38,3 +39,7 @@ module _ (n root bits unit : ℕ) (h : DigitsLeft n root bits unit) where
   nought_found kept k z l =
       subst (λ (r : ℕ). DigitsLeft n r (bits - 1) (unit / 2)) (sym k)
       (record { weight = (halved bits unit h.weight z).0; from = h.from; up_to = l; small = omega (arith, h.small) })
+
+  -- whichever it is
+  pub digit_found : (kept : ℕ) → 0 < bits → ((kept ≡ root + unit / 2) × (square (root + unit / 2) ≤ n)) ⊎ ((kept ≡ root) × (n < square (root + unit / 2))) → DigitsLeft n kept (bits - 1) (unit / 2)
+  digit_found kept z w = elim w [ inl t ↦ one_found kept t.0 z t.1 | inr t ↦ nought_found kept t.0 z t.1 ]

@@ -3,6 +3,8 @@
 // on floats, where a NaN has no pattern of its own.
 // A positive value is n * 4^k * 2^-298 with n from 2^46 up to 2^48. In units of the smallest value,
 // 2^-149, its root is 2^k times that of n, which has the 24 digits that an f32 holds.
+#![tactic(auto)]
+
 ghost use Rattle.std.specs.Prelude.{◌≡◌, ◌+◌, ◌*◌, ◌^◌, ◌≤◌, ◌<◌};
 ghost use Rattle.std.specs.Float.{binary32};
 ghost use Rattle.std.specs.Float.Ieee.{to_bits};
@@ -77,6 +79,7 @@ fn positive(field: u32, digits: u32) -> u32
 }
 
 // The pattern of the root of the value with the pattern `bits`.
+#[tactic(auto, using(crate::proofs::Patterns::nan_root, crate::proofs::SpecialValues::special_bits))]
 pub fn root_bits(bits: u32) -> u32
     ensures pattern { result ≡ root_bits bits }
     ensures special { SpecialBits bits result }
