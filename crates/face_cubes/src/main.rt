@@ -1,5 +1,7 @@
 // Runs the face test and the comparison of two cubes on a few cubes of document 01 and prints what
 // each says.
+#![tactic(auto)]
+
 use cube::{Cube, Face, Refusal};
 use face::FaceAnswer;
 use meeting::Compared;
