@@ -10,7 +10,7 @@ use lib.Dec.{eqb}
 use lib.ListN.{length, take, drop, length-take, length-drop, drop_of_length-le}
 use lib.Seq.{take_all, take-take, take-nil}
 use borrow.Author.Tests.{eqb-true}
-use Rattle.bytes.specs.Bytes.{index_of, index_after, slice}
+use Rattle.scan.specs.Bytes.{index_of, index_after, slice}
 use Rattle.line.specs.Number.{Value, is, broken, signed_of}
 use Rattle.line.specs.Line.{Parsed, malformed, line_from, parse_line}
 use Rattle.line.proofs.Decimals.{nothing}

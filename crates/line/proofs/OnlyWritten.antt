@@ -9,7 +9,7 @@ use native.Mathlib.Omega.{arith}
 use lib.IntN.{ℤ}
 use lib.ListN.{length, take, drop, length-drop, take-append-drop, drop_of_length-le}
 use lib.Seq.{take_all, drop-drop}
-use Rattle.bytes.specs.Bytes.{index_of}
+use Rattle.scan.specs.Bytes.{index_of}
 use Rattle.cube.specs.declared.Cube.{Cube}
 use Rattle.line.specs.Number.{Value, is, broken, signed_of}
 use Rattle.line.specs.Line.{Parsed, given, refused, malformed, corner_bits, have_corners, cube_in, line_from, parse_line}

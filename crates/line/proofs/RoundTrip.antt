@@ -9,7 +9,7 @@ use lib.IntN.{ℤ}
 use lib.ListN.{length, take, drop, length-append}
 use lib.Seq.{take-append_seam, drop-append_seam, drop-append-add}
 use borrow.Author.Tests.{lt-ltb}
-use Rattle.bytes.specs.Bytes.{index_of}
+use Rattle.scan.specs.Bytes.{index_of}
 use Rattle.cube.specs.Corners.{cube}
 use Rattle.line.specs.Number.{is, signed_of}
 use Rattle.line.specs.Line.{given, corner_bits, have_corners, cube_in, line_from, parse_line}

@@ -5,7 +5,7 @@ use Prim.Native.Nat.{ℕ}
 use lib.Dec.{T, ltb→lt}
 use lib.IntN.{ℤ, pos, negsuc}
 use lib.ListN.{length}
-use Rattle.bytes.specs.Bytes.{index_of}
+use Rattle.scan.specs.Bytes.{index_of, index_after}
 use Rattle.cube.proofs.Table.{values_of, agree}
 use Rattle.put.specs.Decimal.{decimal_in, decimal}
 use Rattle.line.specs.Number.{Value, is, decimal_digit, one_digit, two_digits, three_digits, whole_of, signed_of}
@@ -37,11 +37,11 @@ module _ (rest : List ℕ) where
   size z = length (signed_text z)
 
   after_not_below : values_of (λ n. space (pos n)) 128 ≡ values_of (λ n. size (pos n)) 128
-  unfolding space size index_of signed_text decimal decimal_in
+  unfolding space size index_of index_after signed_text decimal decimal_in
   after_not_below = refl
 
   after_below : values_of (λ n. space (negsuc n)) 128 ≡ values_of (λ n. size (negsuc n)) 128
-  unfolding space size index_of signed_text decimal decimal_in
+  unfolding space size index_of index_after signed_text decimal decimal_in
   after_below = refl
 
   pub first_space : (z : ℤ) → T (in_byte z) → index_of 32 (signed_text z ++ 32 ∷ rest) ≡ length (signed_text z)

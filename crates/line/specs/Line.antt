@@ -2,7 +2,7 @@
 -- Written.antt, and `WrittenBack` and `OnlyWritten` there say that just this is parsed. Definitions only.
 use Rattle.std.specs.Prelude.{ℕ, suc, ◌+◌, ◌-◌, ◌*◌, Bool, true, cond, ◌&&◌, eqb, ltb, ℤ, length, get_or, take, drop}
 use mathlib.Core.List.{List, [], ◌∷◌, map, foldr}
-use Rattle.bytes.specs.Bytes.{index_of}
+use Rattle.scan.specs.Bytes.{index_of}
 use Rattle.cube.specs.declared.Cube.{Cube}
 use Rattle.cube.specs.Corners.{cube}
 use Rattle.hex_digits.specs.Hex.{word_of}

@@ -1,4 +1,6 @@
 // A line of the program's input: document 01, 'Program'. Public: `parse_line`.
+#![tactic(auto)]
+
 ghost use Rattle.std.specs.Prelude.{◌≡◌, cond, ◌&&◌, ◌+◌, ◌-◌, ◌*◌, ◌%◌, ◌≤◌, leb, pos, negsuc, length};
 ghost use Rattle.std.specs.Float.Ieee.{of_bits};
 ghost use Rattle.std.specs.Float.{binary32};
@@ -179,7 +181,7 @@ pub fn parse_line(line: &[u8]) -> Line
         return Line::Malformed;
     }
     let n = line.len() - 72;
-    let k = bytes::scan::find(line, 0, n, b' ');
+    let k = scan::find(line, 0, n, b' ');
     if k == n {
         return Line::Malformed;
     }
