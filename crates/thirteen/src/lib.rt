@@ -1,5 +1,7 @@
 // The case-13 test: document 01, 'Case-13 test'. An inner routine for the choice, which has tested its
 // cube.
+#![tactic(auto)]
+
 ghost use Rattle.std.specs.Prelude.{◌≡◌};
 ghost use Rattle.thirteen.specs.Thirteen.{within, both_within, answer_at, case13_of};
 
