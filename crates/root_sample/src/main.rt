@@ -1,6 +1,7 @@
 // Compares the proved root with the machine's on the sample that oracle/root.sh makes: lines of a
 // pattern, a space and its root's pattern, eight lower-case hex digits each. Prints how many lines
 // there were and how many differ; a line of any other form counts as one that differs.
+#![tactic(auto)]
 
 // Whether the line has a pattern and its root.
 fn agrees(line: &[u8; 18]) -> bool {
