@@ -5,7 +5,7 @@
 cd "$(dirname "${BASH_SOURCE[0]}")/.."
 out=target/parallel
 mkdir -p "$out"
-rt check mc33 > "$out/check.log" 2>&1 || { cat "$out/check.log"; exit 1; }
+bin/program.sh > "$out/check.log" 2>&1 || { cat "$out/check.log"; exit 1; }
 
 # in_blocks FILE HOW: the blocks' answers, joined. The names line is answered by itself first, for an input that has
 # no other. Of what mc33 says on standard error only that a line of a block was refused is passed over.

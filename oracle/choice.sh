@@ -18,7 +18,7 @@ case "${1-}" in
     /*) source=$1; shift ;;
     *) source=$here/$1; shift ;;
 esac
-rt staticlib mc33_c >&2
+bin/archive.sh >&2
 mkdir -p target/oracle
 python3 oracle/extract.py "$source" target/oracle/extract.rs
 rustc -C opt-level=3 -C codegen-units=1 -C debug-assertions=off --edition 2021 oracle/choice.rs \

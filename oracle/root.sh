@@ -4,7 +4,7 @@
 # from its `stdin`.
 set -euo pipefail
 cd "$(dirname "$0")/.."
-rt staticlib mc33_c >&2
+bin/archive.sh >&2
 mkdir -p target/oracle
 rustc -O --edition 2021 oracle/root.rs -o target/oracle/root -L target/staticlib -l static=mc33_c
 exec target/oracle/root "$@"

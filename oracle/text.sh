@@ -15,7 +15,7 @@ case "${1-}" in
     /*) source=$1; shift ;;
     *) source=$here/$1; shift ;;
 esac
-rt check mc33 >&2
+bin/program.sh >&2
 case "${1-}" in
     inputs)
         exec python3 oracle/text.py target/bin/mc33 crates/mc33_inputs/stdin

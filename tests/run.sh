@@ -56,7 +56,7 @@ tried rust tests/rust.sh
 tried python python_tests python3
 numpy=$(numpy_python)
 if [ -n "$numpy" ]; then tried numpy python_tests "$numpy"; else wanting numpy "Debian's python3-numpy"; fi
-tried program rt check mc33
+tried program bin/program.sh
 tried shell tests/shell.sh
 tried split examples/split.sh
 if [[ $(parallel --version 2>&1 < /dev/null) = "GNU parallel"* ]]; then tried parallel examples/parallel.sh; else wanting parallel "GNU parallel"; fi

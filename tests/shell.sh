@@ -8,7 +8,7 @@ cd "$(dirname "$0")/.."
 out=target/shell
 mkdir -p "$out"
 if [ $# = 0 ]; then
-    rt check mc33 > "$out/check.log" 2>&1 || { cat "$out/check.log"; exit 1; }
+    bin/program.sh > "$out/check.log" 2>&1 || { cat "$out/check.log"; exit 1; }
 fi
 MC33_PROGRAM=$(realpath "${1-target/bin/mc33}")
 export MC33_PROGRAM
