@@ -1,6 +1,8 @@
 // Document 01, 'A choice': a choice and what was counted on the way to it, the tilings by the source's table names
 // with their codes, and what makes a choice (`nothing`, `untiled`, `tile`, `plain`, `settle`, `has_centre`). Also what the
 // cases that ask something share: s (`side`), the ambiguous face (`ambiguous`), three faces asked (`ask_three`).
+#![tactic(auto)]
+
 ghost use Rattle.std.specs.Prelude.{◌≡◌, [], ◌∷◌, map, ◌+◌, ◌≤◌, T, nat_abs};
 ghost use Rattle.cube.specs.Bits.{number_of};
 ghost use Rattle.face.specs.Face.{is_face, face_of};
@@ -19,7 +21,7 @@ use notes::Notes;
 
 // `Untiled` has the configuration and the sub-configuration; `Tiled` the code, row and column, and whether the
 // tiling is drawn with the centre.
-#[derive(Drop)]
+#[derive(Clone, Copy)]
 pub enum Choice {
     Empty,
     Untiled(u8, u8),
@@ -27,7 +29,7 @@ pub enum Choice {
 }
 
 // A choice, and what was counted on the way to it.
-#[derive(Drop)]
+#[derive(Clone, Copy)]
 pub struct Counted {
     pub choice: Choice,
     pub notes: Notes,
