@@ -1,6 +1,8 @@
 // Cases 10 and 12 of document 01, 'Choice', which ask two faces: for each the columns of its TEST table and its
 // function, which follows the case's plan. The column s is 7. With both faces true the interior test takes -s, and a
 // no leads to row 5 - configuration in case 10, 23 - configuration in case 12. Public: `case_10`, `case_12`.
+#![tactic(auto)]
+
 ghost use Rattle.std.specs.Prelude.{◌≡◌, ◌<◌};
 ghost use Rattle.notes.specs.Notes.{no_notes};
 ghost use Rattle.tilings.specs.Plan.{run};
