@@ -1,5 +1,7 @@
 // Case 13 of document 01, 'Choice': the columns of TEST_13, SUB_CONFIG_13 as tilings and columns, and the function
 // that follows the case's plan. Public: `case_13`.
+#![tactic(auto)]
+
 ghost use Rattle.std.specs.Prelude.{◌≡◌, ◌<◌, ◌≤◌};
 ghost use Rattle.notes.specs.Notes.{no_notes, tests_of};
 ghost use Rattle.tilings.specs.Plan.{run};
