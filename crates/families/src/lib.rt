@@ -3,6 +3,8 @@
 // `choose_plain`, by which a caller spares a case that asks nothing the longer way.
 // Callers make that test themselves: were it in one function that they share, the compiler would take
 // `choose` into it, and a case that asks nothing would go the longer way again.
+#![tactic(auto)]
+
 ghost use Rattle.std.specs.Prelude.{◌≡◌, false, ◌<◌, get_or};
 ghost use Rattle.notes.specs.Notes.{no_notes};
 ghost use Rattle.tilings.specs.Tilings.{configurations, first_tiling, is_one_of};
