@@ -47,6 +47,7 @@ pub fn size(face: Face) -> u32
 }
 
 // |face|, and 0 where there is no such face.
+#[tactic(auto, using(crate::proofs::Places::a_face, crate::proofs::Places::no_face))]
 pub fn place(face: Face) -> u32
     ensures { result ≡ place_of face.0 }
 {
