@@ -13,6 +13,8 @@
 // The answers in `stdout` come from outside, by oracle/library_calls.py, which knows nothing of this code: the version
 // is the header's; choices are document 01's own for its cubes and the Rust's for the cubes of mc33's sample; lists,
 // refusals, faces, readings and roots are worked out from document 01's text.
+#![tactic(auto)]
+
 ghost use Rattle.std.specs.Prelude.{◌+◌, ◌<◌, ◌≤◌, length};
 
 use cube::Cube;
@@ -206,7 +208,7 @@ fn all(file: &[u8], corners: &mut [f32], numbers: &mut [i8]) {
     let mut n = 0;
     let mut at = 0;
     while at < file.len() {
-        let end = bytes::scan::find(file, at, file.len(), b'\n');
+        let end = scan::find(file, at, file.len(), b'\n');
         n = turn(&file[at..end], n, corners, numbers);
         if end == file.len() {
             break;

@@ -1,5 +1,7 @@
-// The C interface of the proved crates, for C and Rust to link as a static library. Each function takes
-// numbers and gives document 01's numbers, and promises what the crate's own routine does.
+// The C interface of the proved crates, which `mc33_c_c` exports for C and Rust to link as a static library. Each
+// function takes numbers and gives document 01's numbers, and promises what the crate's own routine does.
+#![tactic(auto)]
+
 ghost use Rattle.std.specs.Prelude.{◌≡◌, ◌≤◌, length};
 ghost use Rattle.root.specs.Root.{root_of, root_bits};
 ghost use Rattle.root.specs.Nearest.{NearestRoot};
@@ -66,16 +68,14 @@ pub struct Mc33Outcome {
 }
 
 // The version of the library, as include/mc33.h has it: 1000 × major + minor.
-#[unsafe(no_mangle)]
-pub extern "C" fn mc33_version() -> u32
+pub fn mc33_version() -> u32
     ensures { result ≡ version }
 {
     5000
 }
 
 // The f32 square root of x: the nearest value. A NaN has no pattern of its own here.
-#[unsafe(no_mangle)]
-pub extern "C" fn mc33_root(x: f32) -> f32
+pub fn mc33_root(x: f32) -> f32
     ensures value { result ≡ root_of x }
     ensures nearest { NearestRoot x result }
     ensures special { SpecialRoots x result }
@@ -84,8 +84,7 @@ pub extern "C" fn mc33_root(x: f32) -> f32
 }
 
 // The pattern of the f32 square root of the value with the pattern `bits`; 7fc00000 for every NaN.
-#[unsafe(no_mangle)]
-pub extern "C" fn mc33_root_bits(bits: u32) -> u32
+pub fn mc33_root_bits(bits: u32) -> u32
     ensures pattern { result ≡ root_bits bits }
     ensures special { SpecialBits bits result }
 {
@@ -148,16 +147,14 @@ fn choice_numbers(answer: Answer) -> Mc33Choice
 }
 
 // The choice for a case, a configuration and a cube.
-#[unsafe(no_mangle)]
-pub extern "C" fn mc33_choose(case: i8, configuration: i8, cube: Cube) -> Mc33Choice
+pub fn mc33_choose(case: i8, configuration: i8, cube: Cube) -> Mc33Choice
     ensures { result ≡ choice_numbers (answer_of case configuration cube) }
 {
     choice_numbers(choice::handle_cube(case, configuration, cube))
 }
 
 // The face test of a signed face number.
-#[unsafe(no_mangle)]
-pub extern "C" fn mc33_face(cube: Cube, face: i8) -> Mc33Face
+pub fn mc33_face(cube: Cube, face: i8) -> Mc33Face
     ensures { result ≡ face_numbers (test_face_of cube face) }
 {
     match face::test_face(cube, Face(face)) {
@@ -196,8 +193,7 @@ fn reading_numbers(r: Reading) -> Mc33Edge
 }
 
 // The reading of an edge.
-#[unsafe(no_mangle)]
-pub extern "C" fn mc33_edge(cube: Cube, edge: i8) -> Mc33Edge
+pub fn mc33_edge(cube: Cube, edge: i8) -> Mc33Edge
     ensures { result ≡ edge_numbers (edge_reading_of cube edge) }
 {
     match edge::interior_ambiguity_verification(cube, EdgeNo(edge)) {
@@ -235,8 +231,7 @@ fn outcome_numbers(outcome: Outcome) -> Mc33Outcome
 
 // The choices for a list of cubes: 8 corner values and 2 numbers (case and configuration) a cube, and
 // 6 answer bytes a cube. A refused list has every answer byte unchanged.
-#[unsafe(no_mangle)]
-pub extern "C" fn mc33_list(corners: &[f32], numbers: &[i8], answers: &mut [u8]) -> Mc33Outcome
+pub fn mc33_list(corners: &[f32], numbers: &[i8], answers: &mut [u8]) -> Mc33Outcome
     ensures outcome { result ≡ outcome_numbers (result_of corners.now numbers.now (length answers.old)) }
     ensures answers { answers.new ≡ answers_of corners.now numbers.now answers.old }
 {

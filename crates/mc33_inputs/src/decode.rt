@@ -29,9 +29,8 @@ pub(crate) fn wide(byte: u8) -> u64
 
 // Lays the names lines and the corners.
 pub(crate) fn lay_lines(room: &mut [u8; ROOM]) {
-    bytes::copy(
+    room[..BYTES].copy_from_slice(
         b"case config c0 c1 c2 c3 c4 c5 c6 c7\ncode row column centre unsettled unmatched readings\n 3f800000 bf800000 3f800000 bf800000 bf800000 bf800000 bf800000 bf800000",
-        room,
     );
 }
 

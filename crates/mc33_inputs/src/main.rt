@@ -3,14 +3,19 @@
 // and an empty line is nothing. Each input is run as one block, a byte at a time and, up to 400 bytes, cut in
 // two at every byte. Prints the number of each line that differs, then how many inputs, runs and differing
 // inputs there were. A line of another form counts as one that differs.
+#![tactic(auto)]
+
 mod decode;
 mod run;
 
 ghost use Rattle.std.specs.Prelude.{◌≡◌, ◌≤◌, length};
 
 use decode::{KNOWN, ROOM};
-use libc::{STDIN_FILENO, STDOUT_FILENO};
 use run::INPUT;
+
+const STDIN: i32 = 0;
+
+const STDOUT: i32 = 1;
 
 // Room for the tests, and one byte more.
 const FILE: usize = 65537;
@@ -115,9 +120,9 @@ fn try_line(file: &[u8], from: usize, to: usize, room: &mut [u8; ROOM]) -> Ran
 }
 
 fn print_line(number: u64) {
-    io::write_all(STDOUT_FILENO, b"line ");
-    io::print_decimal(STDOUT_FILENO, number);
-    io::write_all(STDOUT_FILENO, b" differs\n");
+    io::write_all(STDOUT, b"line ");
+    io::print_decimal(STDOUT, number);
+    io::write_all(STDOUT, b" differs\n");
 }
 
 fn counted(tally: Tally, ran: Ran) -> Tally {
@@ -125,10 +130,12 @@ fn counted(tally: Tally, ran: Ran) -> Tally {
         print_line(tally.line);
     }
     Tally {
-        line: std::num::wrapping_add_u64(tally.line, 1),
-        inputs: std::num::wrapping_add_u64(tally.inputs, (!ran.good | (0 < ran.runs)) as u64),
-        runs: std::num::wrapping_add_u64(tally.runs, ran.runs),
-        differ: std::num::wrapping_add_u64(tally.differ, !ran.good as u64),
+        line: tally.line.wrapping_add(1),
+        inputs: tally
+            .inputs
+            .wrapping_add((!ran.good | (0 < ran.runs)) as u64),
+        runs: tally.runs.wrapping_add(ran.runs),
+        differ: tally.differ.wrapping_add(!ran.good as u64),
     }
 }
 
@@ -143,7 +150,7 @@ fn all(file: &[u8; FILE], n: usize, room: &mut [u8; ROOM]) -> Tally
     };
     let mut at = 0;
     while at < n {
-        let end = bytes::scan::find(file, at, n, b'\n');
+        let end = scan::find(file, at, n, b'\n');
         tally = counted(tally, try_line(file, at, end, room));
         if end == n {
             break;
@@ -154,18 +161,18 @@ fn all(file: &[u8; FILE], n: usize, room: &mut [u8; ROOM]) -> Tally
 }
 
 fn report(tally: Tally) {
-    io::print_decimal(STDOUT_FILENO, tally.inputs);
-    io::write_all(STDOUT_FILENO, b" inputs, ");
-    io::print_decimal(STDOUT_FILENO, tally.runs);
-    io::write_all(STDOUT_FILENO, b" runs, ");
-    io::print_decimal(STDOUT_FILENO, tally.differ);
-    io::write_all(STDOUT_FILENO, b" differ\n");
+    io::print_decimal(STDOUT, tally.inputs);
+    io::write_all(STDOUT, b" inputs, ");
+    io::print_decimal(STDOUT, tally.runs);
+    io::write_all(STDOUT, b" runs, ");
+    io::print_decimal(STDOUT, tally.differ);
+    io::write_all(STDOUT, b" differ\n");
 }
 
 fn read(file: &mut [u8; FILE]) -> usize
     ensures { result ≤ 65537 }
 {
-    io::read_full(STDIN_FILENO, file)
+    io::read_full(STDIN, file)
 }
 
 // The arrays are lent as arrays: lent as slices their bytes would be counted in the proof.
@@ -176,7 +183,7 @@ fn main() {
     decode::lay_bytes(&mut room);
     let n = read(&mut file);
     if n == FILE {
-        io::write_all(STDOUT_FILENO, b"more than 65,536 bytes of tests\n");
+        io::write_all(STDOUT, b"more than 65,536 bytes of tests\n");
         return;
     }
     report(all(&file, n, &mut room));
