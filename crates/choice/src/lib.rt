@@ -1,5 +1,7 @@
 // The choice: document 01, 'A choice' and 'Choice'. Public: `handle_cube`, and its two halves, which
 // lists want apart: `refusal` and `choose_tested`.
+#![tactic(auto)]
+
 ghost use Rattle.std.specs.Prelude.{◌≡◌, cond, ◌<◌, ◌≤◌, T, pos, get_or};
 ghost use Rattle.tilings.specs.Tilings.{configurations};
 ghost use Rattle.tilings.specs.Answers.{reached};
@@ -14,14 +16,14 @@ use cube::{Cube, Refusal, Split};
 use tilings::Counted;
 
 // What is answered: the choice with what was counted, or why there is none.
-#[derive(Drop)]
+#[derive(Clone, Copy)]
 pub enum Answer {
     Chosen(Counted),
     Refused(Refusal),
 }
 
 // A case and one of its configurations; `Nothing` is case 0.
-#[derive(Drop)]
+#[derive(Clone, Copy)]
 enum Family {
     Nothing,
     Known(u8, u8),
