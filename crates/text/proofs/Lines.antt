@@ -7,7 +7,7 @@ use native.Mathlib.Nat.{suc-ne-zero, suc_inj}
 use lib.Dec.{eqb}
 use lib.ListN.{length, take, drop}
 use lib.Seq.{append_snoc}
-use Rattle.bytes.specs.Bytes.{index_after, index_of}
+use Rattle.scan.specs.Bytes.{index_after, index_of}
 use Rattle.line.proofs.Cuts.{cut_at}
 use Rattle.answer.specs.Answer.{reply_to}
 use Rattle.text.specs.Run.{run_from}

@@ -10,7 +10,7 @@ use lib.ListN.{length, take, drop, length-drop}
 use lib.Seq.{length-take-le, take-length, drop-length, drop-drop}
 use borrow.Author.Tests.{leb-true, leb-false}
 use borrow.Table.Steps.{cases}
-use Rattle.bytes.specs.Bytes.{slice, index_of}
+use Rattle.scan.specs.Bytes.{slice, index_of}
 use Rattle.put.specs.Placed.{placed}
 use Rattle.put.proofs.Placed.{placed_length}
 use Rattle.answer.specs.Room.{line_room, names_more}

@@ -1,6 +1,8 @@
 // The program of document 01, 'Program', over slices: `answer_block` answers the whole lines of a block, and
 // `finish` the input's end. Every byte that the program prints is put by these. Inner routines of the
 // program mc33, which lends them room.
+#![tactic(auto)]
+
 ghost use Rattle.std.specs.Prelude.{◌≡◌, [], ◌+◌, ◌≤◌, ◌<◌, ◌^◌, length, take, drop};
 ghost use Rattle.put.specs.Placed.{placed};
 ghost use Rattle.answer.specs.Room.{line_room};
@@ -51,7 +53,7 @@ pub fn answer_block(input: &[u8], number: u64, out: &mut [u8]) -> Answered
     let mut at = 0;
     let mut put = 0;
     let mut n = number;
-    let mut end = bytes::scan::find(input, at, input.len(), b'\n');
+    let mut end = scan::find(input, at, input.len(), b'\n');
     while end < input.len() {
         let said = answer::answer_line(&input[at..end], n, out, put);
         put = said.at;
@@ -65,7 +67,7 @@ pub fn answer_block(input: &[u8], number: u64, out: &mut [u8]) -> Answered
         }
         at = end + 1;
         n += 1;
-        end = bytes::scan::find(input, at, input.len(), b'\n');
+        end = scan::find(input, at, input.len(), b'\n');
     }
     part_line(input, at, n, out, put)
 }
