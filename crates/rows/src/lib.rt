@@ -1,5 +1,7 @@
 // One cube of a list and its row of answer bytes: document 01, 'List', with the six bytes of document 02, Change 10.
 // Inner routines, for what makes rows and is proved to meet what they require.
+#![tactic(auto)]
+
 ghost use Rattle.std.specs.Prelude.{◌≡◌, ◌+◌, ◌*◌, ◌/◌, ◌≤◌, ◌<◌, length};
 ghost use Rattle.tilings.specs.Answers.{reached};
 ghost use Rattle.put.specs.Placed.{placed};
@@ -16,14 +18,14 @@ use tilings::{Choice, Counted};
 pub const WIDTH: usize = 6;
 
 // What a list comes to: done, or document 01's number of a refusal and the place of its cube.
-#[derive(Drop)]
+#[derive(Clone, Copy)]
 pub enum Outcome {
     Done,
     Refused(u8, usize),
 }
 
 // A cube's answer bytes. `rest` is the centre and the unsettled number.
-#[derive(Drop)]
+#[derive(Clone, Copy)]
 pub struct Row {
     pub code: u8,
     pub row: u8,
