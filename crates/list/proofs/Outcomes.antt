@@ -1,6 +1,6 @@
 -- What a list comes to, and its answer bytes, from the tests as the code makes them. Assumes nothing.
 use mathlib.Core.Path.{◌≡◌, refl, sym, ap, subst, ◌∙◌}
-use mathlib.Core.Bool.{Bool, true, false, cond, not, ◌&&◌}
+use mathlib.Core.Bool.{Bool, true, false, cond, ◌&&◌}
 use mathlib.Core.List.{List, ◌++◌}
 use Prim.Native.Nat.{ℕ, ◌*◌, ◌/◌, ◌%◌, ◌≤◌, ◌<◌}
 use native.Mathlib.Nat.{zero-add}
@@ -10,18 +10,14 @@ use lib.IntN.{ℤ}
 use lib.ListN.{length, drop}
 use lib.Ieee.{Float}
 use lib.Ieee.Fits.{and_r}
-use borrow.Author.Tests.{not-true, not-false, le-leb, lt-leb}
+use borrow.Author.Tests.{le-leb, lt-leb}
 use Rattle.put.specs.Placed.{placed}
 use Rattle.rows.specs.Rows.{width, Result, done, refused_at}
 use Rattle.rows.specs.declared.Outcome.{Outcome}
 use Rattle.rows.specs.declared.Outcome.TheVariants.{Done, Refused}
 use Rattle.rows.specs.Results.{outcome_result}
-use Rattle.rows.specs.OldRows.{OldRows, BareRows}
 use Rattle.rows.specs.Parts.{block}
-use Rattle.rows.proofs.Rows.{old_rows, bare_rows}
 use Rattle.list.specs.Lists.{cubes, lengths_agree, first_from, result_of, rows_of, answers_by, answers_of, InPlace}
-use Rattle.list.specs.Tries.{ListTries}
-use Rattle.list.proofs.Controls.{tries_hold}
 use Rattle.list.proofs.Rows.{in_place}
 
 module _ (xs : List Float) (ns : List ℤ) where
@@ -29,16 +25,16 @@ module _ (xs : List Float) (ns : List ℤ) where
   abbrev agreed : Bool
   agreed = eqb (length xs % 8) 0 && eqb (length ns % 2) 0 && eqb (cubes xs) (length ns / 2)
 
-  pub enough : not agreed ≡ false → 2 * cubes xs ≤ length ns
+  pub enough : agreed ≡ true → 2 * cubes xs ≤ length ns
   enough e =
-      let t = and_r (eqb (length xs % 8) 0 && eqb (length ns % 2) 0) (eqb (cubes xs) (length ns / 2)) (subst T (sym (not-false agreed e)) tt) in
+      let t = and_r (eqb (length xs % 8) 0 && eqb (length ns % 2) 0) (eqb (cubes xs) (length ns / 2)) (subst T (sym e) tt) in
       let same = eqb→eq (cubes xs) (length ns / 2) t in
       omega arith
 
   module _ (ys : List ℕ) where
-    -- what `choose_list` promises
+    -- what `choose_list` promises of this list
     abbrev Promised : Result → List ℕ → Type 0
-    Promised r zs = (r ≡ result_of xs ns (length ys)) × ((zs ≡ answers_of xs ns ys) × (ListTries × (OldRows × (BareRows × (r ≡ done → InPlace xs ns zs)))))
+    Promised r zs = (r ≡ result_of xs ns (length ys)) × (zs ≡ answers_of xs ns ys) × (r ≡ done → InPlace xs ns zs)
 
     stands : (r : Result) (zs : List ℕ) → zs ≡ answers_by r (rows_of xs ns (cubes xs)) ys → r ≡ done → InPlace xs ns zs
     stands r zs f e i h =
@@ -49,7 +45,7 @@ module _ (xs : List Float) (ns : List ℤ) where
     unfolding answers_of
     promised r zs e f =
         let answers = f ∙ ap (λ (r : Result). answers_by r (rows_of xs ns (cubes xs)) ys) e in
-        (e, (answers, (tries_hold, (old_rows, (bare_rows, stands r zs f)))))
+        (e, answers, stands r zs f)
 
     -- by the two tests
     tested : (b d : Bool) → lengths_agree xs ns ≡ b → leb (width * cubes xs) (length ys) ≡ d
@@ -57,23 +53,23 @@ module _ (xs : List Float) (ns : List ℤ) where
     unfolding result_of
     tested b d e f = rw (sym e, sym f)
 
-    pub not_agreed : (n : ℕ) → n ≡ 6 → not agreed ≡ true → Promised (refused_at n 0) ys
+    pub not_agreed : (n : ℕ) → n ≡ 6 → agreed ≡ false → Promised (refused_at n 0) ys
     unfolding lengths_agree
     not_agreed n s e =
         promised (refused_at n 0) ys
-        (ap (λ (n : ℕ). refused_at n 0) s ∙ tested false (leb (width * cubes xs) (length ys)) (not-true (lengths_agree xs ns) e) refl)
+        (ap (λ (n : ℕ). refused_at n 0) s ∙ tested false (leb (width * cubes xs) (length ys)) e refl)
         refl
 
-    module _ (passed : not agreed ≡ false) where
+    module _ (passed : agreed ≡ true) where
       pub no_room : (n : ℕ) → n ≡ 7 → length ys < width * cubes xs → Promised (refused_at n 0) ys
       unfolding lengths_agree
       no_room n s h =
-          promised (refused_at n 0) ys (ap (λ (n : ℕ). refused_at n 0) s ∙ tested true false (not-false (lengths_agree xs ns) passed) (lt-leb (width * cubes xs) (length ys) h)) refl
+          promised (refused_at n 0) ys (ap (λ (n : ℕ). refused_at n 0) s ∙ tested true false passed (lt-leb (width * cubes xs) (length ys) h)) refl
 
       module _ (room : width * cubes xs ≤ length ys) (o : Outcome) (e : outcome_result o ≡ first_from xs ns (cubes xs) 0) where
         first : first_from xs ns (cubes xs) 0 ≡ result_of xs ns (length ys)
         unfolding lengths_agree
-        first = tested true true (not-false (lengths_agree xs ns) passed) (le-leb (width * cubes xs) (length ys) room)
+        first = tested true true passed (le-leb (width * cubes xs) (length ys) room)
 
         pub none_refused : o ≡ Done → first_from xs ns (cubes xs) 0 ≡ done
         none_refused f = sym e ∙ ap outcome_result f

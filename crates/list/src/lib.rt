@@ -1,5 +1,7 @@
 // A list of cubes: document 01, 'List' and 'What is refused', with the rows of document 02, Change 10. Public:
 // `choose_list`.
+#![tactic(auto)]
+
 ghost use Rattle.std.specs.Prelude.{◌≡◌, ◌+◌, ◌*◌, ◌/◌, ◌≤◌, ◌<◌, length};
 ghost use Rattle.put.specs.Placed.{placed};
 ghost use Rattle.rows.specs.Rows.{width, done};
