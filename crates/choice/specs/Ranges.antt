@@ -1,5 +1,5 @@
 -- Document 01, 'A choice': what a choice for a case can be. Definitions only.
-use Rattle.std.specs.Prelude.{ℕ, Bool, false, ◌&&◌, List, [], ◌∷◌, ℤ, pos, negsuc, eqb, ltb, get_or}
+use Rattle.std.specs.Prelude.{ℕ, Bool, false, ◌&&◌, [], ◌∷◌, ℤ, pos, negsuc, eqb, ltb, get_or}
 use Rattle.std.specs.Bool.{beq}
 use Rattle.tilings.specs.Tilings.{configurations, tilings_of, is_one_of, columns_of, has_centre}
 use Rattle.tilings.specs.Plan.{Chosen, empty, no_tiling, tiling, Reached}
