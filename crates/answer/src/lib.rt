@@ -1,6 +1,8 @@
 // The answer to one line of the input: document 01, 'Program', with the seven numbers of document 02, Change 10.
 // `print_choice` prints a choice's line, `put_malformed` the line of refusal 8, `answer_line` answers a line. Inner
 // routines of the text program, which lends them room.
+#![tactic(auto)]
+
 ghost use Rattle.std.specs.Prelude.{◌≡◌, true, false, [], ◌∷◌, ◌++◌, ◌+◌, ◌≤◌, ◌<◌, length};
 ghost use Rattle.tilings.specs.Answers.{reached};
 ghost use Rattle.choice.specs.Choice.{readings_in, said};
