@@ -7,4 +7,4 @@ pub returns-clause-told : goal.returns-clause-told
 returns-clause-told g c =
     let a = c.args in
     some_came a.state c.answer.result a.buf.now c.answer.new.buf c.answer.new.out a.got c.count.result
-        c.ranges.got (search rules) c.if-got-eq0.false (omega arith) c.count.ensures.value c.answer.ensures.kept
+    c.ranges.got (search rules) c.if-got-eq0.false (omega arith) c.count.ensures.value c.answer.ensures.kept
