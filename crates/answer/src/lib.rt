@@ -19,7 +19,7 @@ use notes::Notes;
 use tilings::{Choice, Counted};
 
 // The place after what was printed, and whether it was a refusal.
-#[derive(Drop)]
+#[derive(Clone, Copy)]
 pub struct Printed {
     pub at: usize,
     pub over: bool,

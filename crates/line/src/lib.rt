@@ -12,14 +12,14 @@ ghost use Rattle.line.specs.Written.{WrittenBack, OnlyWritten};
 use cube::Cube;
 
 // A field as a number.
-#[derive(Drop)]
+#[derive(Clone, Copy)]
 pub enum Number {
     Is(i8),
     Broken,
 }
 
 // Case, configuration and corners.
-#[derive(Drop)]
+#[derive(Clone, Copy)]
 pub enum Line {
     Given(i8, i8, Cube),
     Malformed,

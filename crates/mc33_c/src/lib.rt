@@ -28,7 +28,7 @@ use tilings::{Choice, Counted};
 // `refusal` is 0 where there is an answer. Empty is all 0; no tiling is code 255 with the configuration
 // as row and the sub-configuration as column. Behind them stands what was counted.
 #[repr(C)]
-#[derive(Drop)]
+#[derive(Clone, Copy)]
 pub struct Mc33Choice {
     pub refusal: u8,
     pub code: u8,
@@ -42,7 +42,7 @@ pub struct Mc33Choice {
 
 // `answer` is 1 for true.
 #[repr(C)]
-#[derive(Drop)]
+#[derive(Clone, Copy)]
 pub struct Mc33Face {
     pub refusal: u8,
     pub answer: u8,
@@ -50,7 +50,7 @@ pub struct Mc33Face {
 
 // `kind` is 1 for rising, 2 beyond, 3 crossed, 4 blank; t and the product are 0 where the reading has none.
 #[repr(C)]
-#[derive(Drop)]
+#[derive(Clone, Copy)]
 pub struct Mc33Edge {
     pub refusal: u8,
     pub kind: u8,
@@ -61,7 +61,7 @@ pub struct Mc33Edge {
 // A list's outcome: `refusal` is 0 where the list is done; `place` is that of the refused cube, counted
 // from 0.
 #[repr(C)]
-#[derive(Drop)]
+#[derive(Clone, Copy)]
 pub struct Mc33Outcome {
     pub refusal: u64,
     pub place: u64,

@@ -9,7 +9,7 @@ ghost use Rattle.reader.specs.Reader.{standing, step_at};
 
 use cube::Cube;
 
-#[derive(Drop)]
+#[derive(Clone, Copy)]
 pub struct Reader<'a> {
     pub corners: &'a [f32],
     pub at: usize,
@@ -17,7 +17,7 @@ pub struct Reader<'a> {
 
 // What stands at a place. Past the last whole cube: `End`, or `Part` where the list's length is no
 // multiple of 8.
-#[derive(Drop)]
+#[derive(Clone, Copy)]
 pub enum Step {
     Cube(Cube),
     Part,

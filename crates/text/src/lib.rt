@@ -10,7 +10,7 @@ ghost use Rattle.text.specs.Run.{at_end};
 ghost use Rattle.text.specs.Block.{block_room, block, behind, block_from, block_of, Composes, BlocksJoin};
 
 // How much was put, where the part line that is left begins, its number, and whether it was the end.
-#[derive(Drop)]
+#[derive(Clone, Copy)]
 pub struct Answered {
     pub put: usize,
     pub left: usize,
