@@ -1,1 +1,2 @@
+mod Controls
 pub mod First
