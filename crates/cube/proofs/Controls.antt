@@ -9,7 +9,7 @@ use lib.IntN.{pos, negsuc}
 use lib.Ieee.{Float, nan, binary32, of_bits}
 use Rattle.cube.specs.declared.Cube.{Cube}
 use Rattle.cube.specs.declared.Refusal.TheVariants.{NoCase, NoConfiguration, NotFinite, NoFace, NoEdge, UnevenLists, NoRoom, Malformed}
-use Rattle.cube.specs.declared.Split.TheVariants.{NotBelow, Below}
+use Rattle.std.specs.Prelude.{Ok, Err}
 use Rattle.cube.specs.Bits.{bit_of, number_of}
 use Rattle.cube.specs.Corners.{corners, digit_of, value_at, corner_of, all_finite, cube}
 use Rattle.cube.specs.Refusals.{refusal_number}
@@ -73,5 +73,5 @@ three_hold : map number_of three ≡ 0 ∷ 1 ∷ 2 ∷ 4 ∷ 7 ∷ []
 unfolding three number_of
 three_hold = refl
 
-signs_hold : map split_value (NotBelow 0 ∷ NotBelow 127 ∷ Below 0 ∷ Below 127 ∷ []) ≡ pos 0 ∷ pos 127 ∷ negsuc 0 ∷ negsuc 127 ∷ []
+signs_hold : map split_value (Ok 0 ∷ Ok 127 ∷ Err 0 ∷ Err 127 ∷ []) ≡ pos 0 ∷ pos 127 ∷ negsuc 0 ∷ negsuc 127 ∷ []
 signs_hold = refl

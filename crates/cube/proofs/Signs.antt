@@ -10,7 +10,7 @@ use lib.Signed.{lt_z, non_neg}
 use mir.Syntax.{w8}
 use mir.Val.{Fits, SFits, to_z, of_z}
 use mir.ValLaws.{to_z-of_z, to_z_pos}
-use Rattle.cube.specs.declared.Split.{Split}
+use Rattle.std.specs.Prelude.{Result}
 use Rattle.cube.specs.Signs.{split_value}
 
 no_less : (a : ℕ) → ltb a 0 ≡ false
@@ -58,5 +58,5 @@ not_below (pos n) f h =
     }
 
 -- what a match on the number taken apart tells of the number
-pub taken : (z : ℤ) (r : Split) → SFits w8 z → split_value r ≡ to_z w8 (of_z w8 z) → (v : Split) → r ≡ v → z ≡ split_value v
+pub taken : (z : ℤ) (r : Result ℕ ℕ) → SFits w8 z → split_value r ≡ to_z w8 (of_z w8 z) → (v : Result ℕ ℕ) → r ≡ v → z ≡ split_value v
 taken z r f e v s = sym (to_z-of_z w8 z f) ∙ sym e ∙ ap split_value s

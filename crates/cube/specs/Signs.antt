@@ -1,8 +1,6 @@
 -- A signed number, as the code takes it apart. Definitions only.
-use Rattle.std.specs.Prelude.{ℤ, pos, negsuc}
-use Rattle.cube.specs.declared.Split.{Split}
-use Rattle.cube.specs.declared.Split.TheVariants.{NotBelow, Below}
+use Rattle.std.specs.Prelude.{ℕ, ℤ, pos, negsuc, Result, Ok, Err}
 
-abbrev pub split_value : Split → ℤ
-split_value (NotBelow k) = pos k
-split_value (Below k) = negsuc k
+abbrev pub split_value : Result ℕ ℕ → ℤ
+split_value (Ok k) = pos k
+split_value (Err k) = negsuc k

@@ -36,49 +36,35 @@ pub struct EdgeNo(pub i8);
 #[derive(Clone, Copy)]
 pub struct Corner(pub u8);
 
-// Why something is refused. `number` gives document 01's number, and never 9 (document 02, 'Change 12').
-#[derive(Clone, Copy)]
+// Why something is refused, with document 01's number, which is never 9 (document 02, 'Change 12').
+#[derive(Clone, Copy, PartialEq, Eq)]
 pub enum Refusal {
-    NoCase,
-    NoConfiguration,
-    NotFinite,
-    NoFace,
-    NoEdge,
-    UnevenLists,
-    NoRoom,
-    Malformed,
+    NoCase = 1,
+    NoConfiguration = 2,
+    NotFinite = 3,
+    NoFace = 4,
+    NoEdge = 5,
+    UnevenLists = 6,
+    NoRoom = 7,
+    Malformed = 8,
 }
 
 pub fn number(why: Refusal) -> u8
     ensures number { result ≡ refusal_number why }
     ensures never9 { T (not (eqb result 9)) }
 {
-    match why {
-        Refusal::NoCase => 1,
-        Refusal::NoConfiguration => 2,
-        Refusal::NotFinite => 3,
-        Refusal::NoFace => 4,
-        Refusal::NoEdge => 5,
-        Refusal::UnevenLists => 6,
-        Refusal::NoRoom => 7,
-        Refusal::Malformed => 8,
-    }
+    why as u8
 }
 
-// A signed number taken apart: `NotBelow(k)` is k, and `Below(k)` is -1 - k.
-#[derive(Clone, Copy)]
-pub enum Split {
-    NotBelow(u8),
-    Below(u8),
-}
-
-pub fn take_apart(n: i8) -> Split
+// A signed number taken apart: `Ok(k)` is k, and `Err(k)` is -1 - k, as the library's `binary_search`
+// answers `Err` with a place beside what was asked for.
+pub fn take_apart(n: i8) -> Result<u8, u8>
     ensures { split_value result ≡ n }
 {
     if n < 0 {
-        Split::Below((-1 - n) as u8)
+        Err((-1 - n) as u8)
     } else {
-        Split::NotBelow(n as u8)
+        Ok(n as u8)
     }
 }
 
