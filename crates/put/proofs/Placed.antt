@@ -1,12 +1,16 @@
--- Text put at a place: its length, what stands before its end and behind it, one text after another, one store, one more byte of a copy and of a move. Assumes nothing.
+-- Text put at a place: its length, what stands before its end and behind it, one text after another, one store, a copy and a move. Assumes nothing.
 use mathlib.Core.Path.{◌≡◌, refl, sym, ap, ◌∙◌, subst}
 use mathlib.Core.List.{List, [], ◌∷◌, ◌++◌, append_assoc}
-use Prim.Native.Nat.{ℕ, ◌+◌, ◌≤◌, ◌<◌}
-use native.Mathlib.Nat.{add-zero, zero-add, add_assoc, add_comm}
+use Prim.Native.Nat.{ℕ, ◌+◌, ◌-◌, ◌≤◌, ◌<◌}
+use native.Mathlib.Nat.{add-zero, add_assoc}
 use native.Mathlib.Numerals.{add-one}
 use native.Mathlib.Omega.{arith}
-use lib.ListN.{length, take, drop, set, get_or, length-append, length-drop, take-append-drop}
-use lib.Seq.{length-take-le, take_at, drop_at, drop-append-add, drop-drop, set_split, take-suc, get_or-append-add, get_or-take, get_or-drop}
+use lib.ListN.{length, take, drop, set, length-append, length-drop, take-append-drop}
+use lib.Seq.{length-take-le, take_at, drop_at, drop-append-add, drop-drop, set_split}
+use borrow.Rule.Slice.PartMut.{put_mid}
+use Rattle.std.specs.List.{copy_within}
+use Rattle.std.proofs.lemmas.Slice.{put_mid-paste}
+use Rattle.std.proofs.lemmas.List.Edits.{paste_all}
 use Rattle.put.specs.Placed.{placed}
 
 pub placed_length : (xs : List ℕ) (at : ℕ) (text : List ℕ) → at + length text ≤ length xs → length (placed xs at text) ≡ length xs
@@ -76,37 +80,15 @@ set_after xs at text i b e h =
     let long = placed_length xs at text (omega arith) in
     placed_after xs at text _ i (b ∷ []) _ (omega arith) e refl (set_placed (placed xs at text) i b (omega arith))
 
--- a turn of the loop that copies
-pub copied_one : (xs : List ℕ) (at : ℕ) (text : List ℕ) (i : ℕ) → at + length text ≤ length xs → i < length text
-    → set (placed xs at (take i text)) (at + i) (get_or text i 0) ≡ placed xs at (take (i + 1) text)
-copied_one xs at text i h l =
-    let e : length (take i text) ≡ i = length-take-le i text (omega arith) in
-    set_after xs at (take i text) (at + i) (get_or text i 0) (omega arith) (omega arith)
-    ∙ ap (placed xs at) (sym (take-suc text i 0 l))
-    ∙ ap (λ (k : ℕ). placed xs at (take k text)) (sym (add-one i))
-
--- what stands after a text that was placed at the front
-after_front : (xs text : List ℕ) (k : ℕ) → get_or (placed xs 0 text) (length text + k) 0 ≡ get_or xs (length text + k) 0
+-- a text copied to its place
+pub copied : (xs : List ℕ) (at k : ℕ) (text ys : List ℕ) → ys ≡ text → k ≡ length text → put_mid at k xs ys ≡ placed xs at text
 unfolding placed
-after_front xs text k =
-    get_or-append-add text (drop (0 + length text) xs) k 0
-    ∙ get_or-drop (0 + length text) xs k 0
-    ∙ ap (λ (n : ℕ). get_or xs (n + k) 0) (zero-add (length text))
+copied xs at k text ys e p = put_mid-paste at k xs ys text (length text) e (sym p) refl ∙ paste_all xs at text (length text) refl
 
--- a turn of the loop that moves n bytes to the front
-pub moved_one : (xs : List ℕ) (from n i : ℕ) → from + n ≤ length xs → i < n
-    → set (placed xs 0 (take i (take n (drop from xs)))) i (get_or (placed xs 0 (take i (take n (drop from xs)))) (from + i) 0)
-    ≡ placed xs 0 (take (i + 1) (take n (drop from xs)))
-moved_one xs from n i h l =
-    let text = take n (drop from xs) in
-    let rest = length-drop from xs in
-    let whole : length text ≡ n = length-take-le n (drop from xs) (omega arith) in
-    let e : length (take i text) ≡ i = length-take-le i text (omega arith) in
-    let read : get_or (placed xs 0 (take i text)) (from + i) 0 ≡ get_or text i 0 =
-    ap (λ (k : ℕ). get_or (placed xs 0 (take i text)) k 0) (add_comm from i ∙ ap (λ (k : ℕ). k + from) (sym e))
-    ∙ after_front xs (take i text) from
-    ∙ ap (λ (k : ℕ). get_or xs k 0) (ap (λ (k : ℕ). k + from) e ∙ add_comm i from)
-    ∙ sym (get_or-take n (drop from xs) i 0 l ∙ get_or-drop from xs i 0) in
-    ap (λ (b : ℕ). set (placed xs 0 (take i text)) i b) read
-    ∙ ap (λ (k : ℕ). set (placed xs 0 (take i text)) k (get_or text i 0)) (sym (zero-add i))
-    ∙ copied_one xs 0 text i (omega arith) (omega arith)
+-- bytes moved to the front
+pub moved : (xs : List ℕ) (from to : ℕ) → to ≤ length xs → copy_within xs from to 0 ≡ placed xs 0 (take (to - from) (drop from xs))
+unfolding placed
+moved xs from to h =
+    let text = take (to - from) (drop from xs) in
+    let n : length text ≡ to - from = length-take-le (to - from) (drop from xs) (omega (arith, length-drop from xs)) in
+    ap (λ (k : ℕ). text ++ drop (0 + k) xs) (sym n)

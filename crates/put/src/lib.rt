@@ -7,6 +7,7 @@ ghost use Rattle.std.specs.Prelude.{◌≡◌, [], ◌∷◌, ◌+◌, ◌-◌, 
 ghost use Rattle.put.specs.Placed.{placed};
 ghost use Rattle.put.specs.Decimal.{decimal};
 
+#[tactic(auto, using(crate::proofs::Placed::set_placed))]
 pub fn byte(b: u8, out: &mut [u8], at: usize) -> usize
     requires { at < length out.old }
     ensures place { result ≡ at + 1 }
@@ -16,17 +17,15 @@ pub fn byte(b: u8, out: &mut [u8], at: usize) -> usize
     at + 1
 }
 
+#[tactic(auto, using(crate::proofs::Placed::copied))]
 pub fn bytes(text: &[u8], out: &mut [u8], at: usize) -> usize
     requires { at + length text.now ≤ length out.old }
     ensures place { result ≡ at + length text.now }
     ensures text { out.new ≡ placed out.old at text.now }
 {
-    let mut i = 0;
-    while i < text.len() {
-        out[at + i] = text[i];
-        i += 1;
-    }
-    at + i
+    let end = at + text.len();
+    out[at..end].copy_from_slice(text);
+    end
 }
 
 // The function calls itself for the higher digits.
@@ -36,10 +35,10 @@ pub fn decimal(n: u64, out: &mut [u8], at: usize) -> usize
     ensures text { out.new ≡ placed out.old at (decimal n) }
 {
     if n < 10 {
-        return byte(48 + n as u8, out, at);
+        return byte(b'0' + n as u8, out, at);
     }
     let last = decimal(n / 10, out, at);
-    byte(48 + (n % 10) as u8, out, last)
+    byte(b'0' + (n % 10) as u8, out, last)
 }
 
 // A number of a choice; most have one digit.
@@ -49,22 +48,18 @@ pub fn small(n: u8, out: &mut [u8], at: usize) -> usize
     ensures text { out.new ≡ placed out.old at (decimal n) }
 {
     if n < 10 {
-        return byte(48 + n, out, at);
+        return byte(b'0' + n, out, at);
     }
     decimal(n as u64, out, at)
 }
 
 // Moves the bytes from `from` up to `to` to the front, and answers how many they are.
+#[tactic(auto, using(crate::proofs::Placed::moved))]
 pub fn to_front(buf: &mut [u8], from: usize, to: usize) -> usize
     requires { (from ≤ to) × (to ≤ length buf.old) }
     ensures place { result ≡ to - from }
     ensures text { buf.new ≡ placed buf.old 0 (take (to - from) (drop from buf.old)) }
 {
-    let n = to - from;
-    let mut k = 0;
-    while k < n {
-        buf[k] = buf[from + k];
-        k += 1;
-    }
-    n
+    buf.copy_within(from..to, 0);
+    to - from
 }
