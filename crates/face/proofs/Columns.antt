@@ -1,61 +1,48 @@
--- The columns of corners as the code has them are document 01's rows: one test over the places, one law. Assumes nothing.
-use mathlib.Core.Path.{◌≡◌, ap, ◌∙◌}
-use mathlib.Core.Bool.{Bool, true, false, cond, not}
-use mathlib.Core.List.{List, [], ◌∷◌}
-use Prim.Native.Nat.{ℕ, ◌<◌, ◌≤◌}
-use native.Mathlib.Omega.{arith}
-use lib.Dec.{T, leb, eqb, eqb→eq, leb→le, nleb→lt, lit<}
+-- The code's table has document 01's rows, and row 0 for numbers that are no face; by it, the values at a face's corners. Assumes nothing.
+use mathlib.Core.Path.{◌≡◌, refl}
+use mathlib.Core.Logic.{inl, inr}
+use mathlib.Core.Bool.{cond, ◌&&◌, and-false}
+use mathlib.Core.List.{List, [], ◌∷◌, map, tail}
+use Prim.Native.Nat.{ℕ}
+use borrow.Author.Tests.{lt-leb}
+use lib.Dec.{leb}
 use lib.IntN.{ℤ, nat_abs}
 use lib.ListN.{get_or, get_or-eq_default}
 use lib.Ieee.{Float}
+use Rattle.std.specs.Prelude.{Option, Some, None, slice_index_or}
+use Rattle.std.specs.Option.{unwrap_or}
+use Rattle.std.proofs.lemmas.Bool.{cases_lt}
 use Rattle.cube.specs.declared.Cube.{Cube}
-use Rattle.cube.specs.Corners.{corners, digit_of, value_at, corner_of}
-use Rattle.cube.proofs.Table.{all_under, under}
+use Rattle.cube.specs.Corners.{corners, value_at, corner_of}
+use Rattle.cube.proofs.Table.{agree}
 use Rattle.face.specs.declared.Square.{Square}
 use Rattle.face.specs.Face.{face_corners, face_corner}
-use Rattle.face.specs.Columns.{place_of, square_of}
+use Rattle.face.specs.Columns.{place_of, row_of, square_of}
 
-columns : List ℕ
-columns = 0x403_2100 ∷ 0x737_6540 ∷ 0x624_7650 ∷ 0x510_3210 ∷ []
+-- the code's table: document 01's with zeros in row 0
+abbrev pub rows : List (List ℕ)
+rows = (0 ∷ 0 ∷ 0 ∷ 0 ∷ []) ∷ tail face_corners
 
--- the digit of column j at a place is the row's entry
-right : ℕ → ℕ → Bool
-unfolding columns face_corners
-right j p = eqb (get_or (get_or face_corners p []) j 0) (digit_of (get_or columns j 0) p)
+by_size : ℕ → List ℕ
+by_size m = slice_index_or rows (unwrap_or (cond (leb 1 m && leb m 6) (Some m) None) 0) []
 
-right_under : (j : ℕ) → j < 4 → T (all_under 7 (right j))
-unfolding right
-right_under = under 4 (λ j. all_under 7 (right j)) tt
+row : ℕ → List ℕ
+row m = map (λ k. get_or (get_or face_corners m []) k 0) (0 ∷ 1 ∷ 2 ∷ 3 ∷ [])
 
--- past face 6 there is no row, and place 0 has the digit 0
-no_row : (j p : ℕ) → 7 ≤ p → get_or (get_or face_corners p []) j 0 ≡ 0
-unfolding face_corners
-no_row j p h = ap (λ (row : List ℕ). get_or row j 0) (get_or-eq_default face_corners [] h)
+same : (m : ℕ) → by_size m ≡ row m
+unfolding by_size row face_corners
+same m = elim (cases_lt m 7) [
+  | inl h ↦ agree by_size row 7 refl m h
+  | inr h ↦ rw (lt-leb m 6 h, and-false (leb 1 m), get_or-eq_default face_corners [] h)
+]
 
-digit_none : (j : ℕ) → j < 4 → 0 ≡ digit_of (get_or columns j 0) 0
-unfolding columns
-digit_none j h = eqb→eq 0 (digit_of (get_or columns j 0) 0) (under 4 (λ j. eqb 0 (digit_of (get_or columns j 0) 0)) tt j h)
-
-row_digit : (j p : ℕ) → j < 4 → p ≤ 6 → get_or (get_or face_corners p []) j 0 ≡ digit_of (get_or columns j 0) p
-unfolding right
-row_digit j p h l = eqb→eq (get_or (get_or face_corners p []) j 0) (digit_of (get_or columns j 0) p) (under 7 (right j) (right_under j h) p (omega arith))
-
-digit : (n : ℤ) (j : ℕ) → j < 4 → face_corner n j ≡ digit_of (get_or columns j 0) (place_of n)
-unfolding face_corner place_of
-digit n j h = go (leb (nat_abs n) 6) (leb→le (nat_abs n) 6) (nleb→lt (nat_abs n) 6)
-  where
-    go : (b : Bool) → (T b → nat_abs n ≤ 6) → (T (not b) → 6 < nat_abs n) → get_or (get_or face_corners (nat_abs n) []) j 0 ≡ digit_of (get_or columns j 0) (cond b (nat_abs n) 0)
-    go true l g = row_digit j (nat_abs n) h (l tt)
-    go false l g = no_row j (nat_abs n) (g tt) ∙ digit_none j h
+pub rowed : (n : ℤ) (p : Option ℕ) (k : ℕ) → p ≡ place_of n → k ≡ unwrap_or p 0 → slice_index_or rows k [] ≡ row_of n
+unfolding by_size row face_corner
+rowed n p k ep e = rw (e, ep) (same (nat_abs n))
 
 -- ---- what the code reads
-module _ (q : Cube) (n : ℤ) (vs : List Float) (k : ℕ) (ev : vs ≡ corners q) (ek : k ≡ place_of n) where
-  at : (j : ℕ) → j < 4 → (x : Float) → x ≡ value_at vs (digit_of (get_or columns j 0) k) → x ≡ corner_of q (face_corner n j)
-  unfolding corner_of
-  at j h x e = rw (e, ev, ek, digit n j h)
-
-  pub squared : (a b c d : Float)
-      → a ≡ value_at vs (digit_of 0x403_2100 k) → b ≡ value_at vs (digit_of 0x737_6540 k) → c ≡ value_at vs (digit_of 0x624_7650 k) → d ≡ value_at vs (digit_of 0x510_3210 k)
-      → ◌≡◌ {A = Square} (record { a = a; b = b; c = c; d = d }) (square_of q n)
-  unfolding columns
-  squared a b c d ea eb ec ed = λ i. record { a = at 0 (lit< tt) a ea i; b = at 1 (lit< tt) b eb i; c = at 2 (lit< tt) c ec i; d = at 3 (lit< tt) d ed i }
+pub squared : (q : Cube) (n : ℤ) (vs : List Float) (r : List ℕ) (a b c d : Float) → vs ≡ corners q → r ≡ row_of n
+    → a ≡ value_at vs (slice_index_or r 0 0) → b ≡ value_at vs (slice_index_or r 1 0) → c ≡ value_at vs (slice_index_or r 2 0) → d ≡ value_at vs (slice_index_or r 3 0)
+    → ◌≡◌ {A = Square} (record { a = a; b = b; c = c; d = d }) (square_of q n)
+unfolding corner_of
+squared q n vs r a b c d ev er ea eb ec ed = rw (ea, eb, ec, ed, ev, er)

@@ -1,12 +1,11 @@
 -- Document 01, 'Face test', over any kind of number, and what the public routine answers. Definitions only.
-use Rattle.std.specs.Prelude.{ℕ, Bool, cond, ◌&&◌, List, [], ◌∷◌, ℤ, pos, nat_abs, leb, get_or}
+use Rattle.std.specs.Prelude.{ℕ, Bool, cond, ◌&&◌, List, [], ◌∷◌, ℤ, pos, nat_abs, leb, get_or, Result, Ok, Err}
 use Rattle.std.specs.Int.Signed.{lt_z}
 use Rattle.binary32.specs.Numbers.{Numbers, f32}
 use Rattle.cube.specs.declared.Cube.{Cube}
 use Rattle.cube.specs.Corners.{corner_of, all_finite}
 use Rattle.cube.specs.Refusals.{refusal_number}
-use Rattle.face.specs.declared.FaceAnswer.{FaceAnswer}
-use Rattle.face.specs.declared.FaceAnswer.TheVariants.{Answer, Refused}
+use Rattle.cube.specs.declared.Refusal.{Refusal}
 
 -- corners a, b, c, d by |face|; there is no face 0
 unfoldable pub face_corners : List (List ℕ)
@@ -53,9 +52,9 @@ pub data Said : Type 0 where
   refused : ℕ → Said
 
 -- the answers of the code by document 01's values and numbers
-abbrev pub said : FaceAnswer → Said
-said (Answer b) = answer b
-said (Refused why) = refused (refusal_number why)
+abbrev pub said : Result Bool Refusal → Said
+said (Ok b) = answer b
+said (Err why) = refused (refusal_number why)
 
 unfoldable pub test_face_of : Cube → ℤ → Said
 test_face_of q n = cond (is_face n) (cond (all_finite q) (answer (face_of q n)) (refused 3)) (refused 4)

@@ -6,17 +6,10 @@
 ghost use Rattle.std.specs.Prelude.{◌≡◌, nat_abs};
 ghost use Rattle.binary32.specs.Numbers.{f32};
 ghost use Rattle.face.specs.Face.{rule, face_of, said, test_face_of};
-ghost use Rattle.face.specs.Columns.{place_of, square_of};
+ghost use Rattle.face.specs.Columns.{place_of, row_of, square_of};
 ghost use Rattle.face.specs.Laws.{FaceLawsAt, FaceLawsOf};
 
-use cube::{Cube, Face, Refusal, Split};
-
-// What the face test says.
-#[derive(Clone, Copy)]
-pub enum FaceAnswer {
-    Answer(bool),
-    Refused(Refusal),
-}
+use cube::{Corner, Cube, Face, Refusal};
 
 // The values at the corners of a face, in the face's order.
 #[derive(Clone, Copy)]
@@ -27,32 +20,31 @@ pub struct Square {
     pub d: f32,
 }
 
-// Corners a, b, c and d of each face: the hex digit at place |face|.
-const A: u64 = 0x403_2100;
-
-const B: u64 = 0x737_6540;
-
-const C: u64 = 0x624_7650;
-
-const D: u64 = 0x510_3210;
+// Corners a, b, c and d of each face, by |face|. There is no face 0: its row is read for numbers that
+// are no face.
+static CORNERS: [[u8; 4]; 7] = [
+    [0, 0, 0, 0],
+    [0, 4, 5, 1],
+    [1, 5, 6, 2],
+    [2, 6, 7, 3],
+    [3, 7, 4, 0],
+    [0, 3, 2, 1],
+    [4, 7, 6, 5],
+];
 
 // |face|
 pub fn size(face: Face) -> u32
     ensures { result ≡ nat_abs face.0 }
 {
-    match cube::take_apart(face.0) {
-        Split::NotBelow(k) => k as u32,
-        Split::Below(k) => k as u32 + 1,
-    }
+    u32::from(face.0.unsigned_abs())
 }
 
-// |face|, and 0 where there is no such face.
-#[tactic(auto, using(crate::proofs::Places::a_face, crate::proofs::Places::no_face))]
-pub fn place(face: Face) -> u32
+// |face|, where there is such a face.
+pub fn place(face: Face) -> Option<u32>
     ensures { result ≡ place_of face.0 }
 {
     let k = size(face);
-    if k <= 6 { k } else { 0 }
+    if (1 <= k) & (k <= 6) { Some(k) } else { None }
 }
 
 // val = a×c - b×d; a tie answers face > 0, else (face × a) × val >= 0 does.
@@ -67,17 +59,24 @@ fn join(face: Face, a: f32, b: f32, c: f32, d: f32) -> bool
     face.0 as f32 * a * val >= 0.0
 }
 
+// Corners a, b, c and d of a face.
+fn corners_of(face: Face) -> [u8; 4]
+    ensures { result ≡ row_of face.0 }
+{
+    CORNERS[place(face).unwrap_or(0) as usize]
+}
+
 // The values at the face's corners.
 pub fn square_of(q: Cube, face: Face) -> Square
     ensures { result ≡ square_of q face.0 }
 {
     let values = cube::values(q);
-    let k = place(face);
+    let [a, b, c, d] = corners_of(face);
     Square {
-        a: cube::value_in(&values, A, k),
-        b: cube::value_in(&values, B, k),
-        c: cube::value_in(&values, C, k),
-        d: cube::value_in(&values, D, k),
+        a: cube::value_at(&values, Corner(a)),
+        b: cube::value_at(&values, Corner(b)),
+        c: cube::value_at(&values, Corner(c)),
+        d: cube::value_at(&values, Corner(d)),
     }
 }
 
@@ -91,15 +90,16 @@ pub fn face_answer(q: Cube, face: Face) -> bool
 }
 
 // The face test: refusal 4 where the number is no face, 3 where a corner is not finite, or the answer.
-pub fn test_face(q: Cube, face: Face) -> FaceAnswer
+#[tactic(auto, using(crate::proofs::Places::by_no_face, crate::proofs::Places::by_not_finite, crate::proofs::Places::by_answer))]
+pub fn test_face(q: Cube, face: Face) -> Result<bool, Refusal>
     ensures answer { said result ≡ test_face_of q face.0 }
     ensures laws { FaceLawsOf q face.0 (said result) }
 {
-    if place(face) == 0 {
-        return FaceAnswer::Refused(Refusal::NoFace);
+    if place(face).is_none() {
+        return Err(Refusal::NoFace);
     }
     if !cube::all_finite(q) {
-        return FaceAnswer::Refused(Refusal::NotFinite);
+        return Err(Refusal::NotFinite);
     }
-    FaceAnswer::Answer(face_answer(q, face))
+    Ok(face_answer(q, face))
 }

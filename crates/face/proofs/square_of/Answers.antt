@@ -4,5 +4,5 @@ use Rattle.face.proofs.square_of.Goals as goal
 
 pub returns : goal.returns
 returns c =
-    squared _ _ _ _ c.values-values.ensures c.place-k.ensures _ _ _ _
-    c.value_in.ensures c.value_in-2.ensures c.value_in-3.ensures c.value_in-4.ensures
+    squared _ _ _ _ _ _ _ _ c.values-values.ensures c.corners_of.ensures
+    c.value_at.ensures c.value_at-2.ensures c.value_at-3.ensures c.value_at-4.ensures
