@@ -1,62 +1,89 @@
--- The interior test of one, two or three faces, from what is seen at each. Assumes nothing.
-use mathlib.Core.Path.{◌≡◌, refl, ap, ◌∙◌}
+-- The interior test for any number of faces, a face at a time, from what is seen at each. Assumes nothing.
+use mathlib.Core.Path.{◌≡◌, refl, sym, ap, ◌∙◌}
 use mathlib.Core.Bool.{Bool, false}
-use mathlib.Core.List.{List, [], ◌∷◌, map, foldr}
-use Prim.Native.Nat.{ℕ, ◌+◌, ◌≤◌}
+use mathlib.Core.List.{List, ◌∷◌, map}
+use Prim.Native.Nat.{ℕ, ◌+◌, ◌*◌, ◌≤◌, ◌<◌}
 use native.Mathlib.Omega.{arith}
+use lib.Dec.{lit≤}
 use lib.IntN.{ℤ, pos}
+use lib.ListN.{length, drop, get_or}
 use lib.Ieee.{Float}
+use Rattle.std.specs.Option.{is_some, unwrap_or}
+use Rattle.std.proofs.Common.{Option, None, Some, add-one}
+use Rattle.std.proofs.Math.Seq.{drop-cons}
+use Rattle.std.proofs.Math.ListN.{drop_of_length-le}
 use Rattle.binary32.specs.Numbers.{f32}
 use Rattle.cube.specs.declared.Cube.{Cube}
+use Rattle.cube.specs.declared.EdgeNo.{EdgeNo}
 use Rattle.cube.specs.Corners.{corners, value_at, corner_of}
 use Rattle.edge.specs.declared.Moves.{Moves}
 use Rattle.edge.specs.Edge.{Told, quotients}
 use Rattle.edge.specs.Moves.{moves_of, read_of}
+use Rattle.notes.specs.declared.Notes.{Notes}
 use Rattle.notes.specs.Notes.{no_notes}
+use Rattle.interior.specs.declared.faces.AmbiguousFace.{AmbiguousFace}
 use Rattle.interior.specs.declared.Diagonals.{Diagonals}
 use Rattle.interior.specs.declared.Sight.{Sight}
 use Rattle.interior.specs.Pick.{pick_with, pick_by}
-use Rattle.interior.specs.Diagonals.{diagonals_of, held_by}
+use Rattle.interior.specs.Diagonals.{diagonals_of, held_by, edge_read}
 use Rattle.interior.specs.Interior.{seen, seen_as, look_at, joined, inside_by, inside_of, counted}
 use Rattle.interior.proofs.Bounds.{counted_look, counted_joined}
 use Rattle.interior.proofs.Picks.{same_picks}
-use Rattle.interior.proofs.Sights.{looked_at, joined_none}
+use Rattle.interior.proofs.Sights.{looked_at, joined_none, none_joined, joined_assoc}
 
--- there is room to join two, and one to two that are joined
-module _ (a b : Bool) (t u : Told Float) (x y : Sight) (ex : x ≡ seen_as f32 quotients a t) (ey : y ≡ seen_as f32 quotients b u) where
-  pub room_for_two : counted x + counted y ≤ 255
-  room_for_two = rw (ex, ey) (omega (arith, counted_look f32 quotients a t, counted_look f32 quotients b u))
+-- ---- few are counted: there is room to join one more
+pub few_seen : (b : Bool) (t : Told Float) (x : Sight) → x ≡ seen_as f32 quotients b t → counted x ≤ 3
+few_seen b t x e = rw e (counted_look f32 quotients b t)
 
-  pub room_for_three : (c : Bool) (v : Told Float) (z r : Sight) → z ≡ seen_as f32 quotients c v → r ≡ joined x y → counted z + counted r ≤ 255
-  room_for_three c v z r ez er =
-      rw (er, ex, ey, ez)
-      (omega
-      (arith, counted_look f32 quotients a t, counted_look f32 quotients b u, counted_look f32 quotients c v, counted_joined (seen_as f32 quotients a t) (seen_as f32 quotients b u)))
+pub few_more : (n : ℕ) (x y z : Sight) → counted x ≤ 3 * n → counted y ≤ 3 → z ≡ joined x y → counted z ≤ 3 * (n + 1)
+few_more n x y z h i e = rw e (omega (arith, counted_joined x y))
+
+-- ---- the edge that is read
+read_or_0 : (pick : Option EdgeNo) → (unwrap_or pick (record { 0 = pos 0 })).0 ≡ edge_read pick
+read_or_0 None = refl
+read_or_0 (Some edge) = refl
 
 module _ (vs : List Float) (d : Diagonals) where
   -- what the code looks at for a face
   abbrev at : ℕ → Sight
   at n = look_at f32 quotients (value_at vs) (pick_with (held_by d) n)
 
-  pub seen_at : (k : ℕ) (e : ℤ) (b : Bool) (m : Moves) (x : Sight)
-      → e ≡ pos (pick_with (held_by d) k).edge → b ≡ (pick_with (held_by d) k).matched → m ≡ moves_of (value_at vs) e → x ≡ seen_as f32 quotients b (read_of m) → x ≡ at k
-  seen_at k e b m x ee eb em ex = looked_at (value_at vs) (pick_with (held_by d) k) b m x eb (em ∙ ap (moves_of (value_at vs)) ee) ex
+  pub seen_at : (k : ℕ) (pick : Option EdgeNo) (edge : EdgeNo) (b : Bool) (m : Moves) (x : Sight)
+      → edge_read pick ≡ pos (pick_with (held_by d) k).edge → is_some pick ≡ (pick_with (held_by d) k).matched
+      → edge ≡ unwrap_or pick (record { 0 = pos 0 }) → b ≡ is_some pick → m ≡ moves_of (value_at vs) edge.0
+      → x ≡ seen_as f32 quotients b (read_of m) → x ≡ at k
+  seen_at k pick edge b m x ep eb ee es em ex =
+      looked_at (value_at vs) (pick_with (held_by d) k) b m x (es ∙ eb)
+      (em ∙ ap (moves_of (value_at vs)) (ap (λ (n : EdgeNo). n.0) ee ∙ read_or_0 pick ∙ ep)) ex
 
   module _ (q : Cube) (s : ℤ) (ev : vs ≡ corners q) (ed : d ≡ diagonals_of q s) where
     same_look : (n : ℕ) → at n ≡ look_at f32 quotients (corner_of q) (pick_by f32 (corner_of q) s n)
     unfolding corner_of
     same_look n = rw (ev, ed, same_picks f32 (corner_of q) s n)
 
-    same_looks : (ns : List ℕ) → foldr joined (seen false no_notes) (map at ns) ≡ inside_of q ns s
+    more_inside : (n : ℕ) (ns : List ℕ) → inside_of q (n ∷ ns) s ≡ joined (at n) (inside_of q ns s)
     unfolding inside_of inside_by
-    same_looks [] = refl
-    same_looks (n ∷ ns) = λ i. joined (same_look n i) (same_looks ns i)
+    more_inside n ns = λ i. joined (sym (same_look n) i) (inside_of q ns s)
 
-    pub one_face : (k : ℕ) (x : Sight) → x ≡ at k → x ≡ inside_of q (k ∷ []) s
-    one_face k x ex = rw (← same_looks (k ∷ []), joined_none (at k), ex)
+    -- from the faces at i and after it to those after it
+    pub one_more_face : (faces : List AmbiguousFace) (i : ℕ) (d : AmbiguousFace) (x y z whole : Sight) → i < length faces
+        → joined x (inside_of q (map (λ k. k.n) (drop i faces)) s) ≡ whole → y ≡ at (get_or faces i d).n → z ≡ joined x y
+        → joined z (inside_of q (map (λ k. k.n) (drop (i + 1) faces)) s) ≡ whole
+    one_more_face faces i d x y z whole h e ey ez =
+        let face = get_or faces i d in
+        let rest = map (λ (k : AmbiguousFace). k.n) (drop (i + 1) faces) in
+        let next : drop i faces ≡ face ∷ drop (i + 1) faces = rw (add-one, drop-cons faces i d h) in
+        rw (ez, ey, joined_assoc x (at face.n) (inside_of q rest s), ← more_inside face.n rest) (rw next at e)
 
-    pub two_faces_lem : (k l : ℕ) (x y r : Sight) → x ≡ at k → y ≡ at l → r ≡ joined x y → r ≡ inside_of q (k ∷ l ∷ []) s
-    two_faces_lem k l x y r ex ey er = rw (← same_looks (k ∷ l ∷ []), joined_none (at l), er, ex, ey)
+-- before the first face nothing is seen, and after the last one all is
+pub none_counted : (m : Notes) → m ≡ no_notes → counted (seen false m) ≤ 3 * 0
+none_counted m e = rw e (lit≤ tt)
 
-    pub three_faces : (k l m : ℕ) (x y z r t : Sight) → x ≡ at k → y ≡ at l → z ≡ at m → r ≡ joined y z → t ≡ joined x r → t ≡ inside_of q (k ∷ l ∷ m ∷ []) s
-    three_faces k l m x y z r t ex ey ez er et = rw (← same_looks (k ∷ l ∷ m ∷ []), joined_none (at m), et, er, ex, ey, ez)
+module _ (q : Cube) (s : ℤ) where
+  pub begun : (faces : List ℕ) (m : Notes) → m ≡ no_notes → joined (seen false m) (inside_of q faces s) ≡ inside_of q faces s
+  begun faces m em = rw (em, none_joined (inside_of q faces s))
+
+  pub all_faces : (faces : List AmbiguousFace) (i : ℕ) (x whole : Sight) → length faces ≤ i
+      → joined x (inside_of q (map (λ k. k.n) (drop i faces)) s) ≡ whole → x ≡ whole
+  unfolding inside_of inside_by
+  all_faces faces i x whole h e = sym (joined_none x) ∙ (rw (drop_of_length-le faces h) at e)

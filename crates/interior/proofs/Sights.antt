@@ -4,6 +4,8 @@ use mathlib.Core.Bool.{Bool, false, ◌||◌, or-false}
 use Prim.Native.Nat.{ℕ}
 use lib.IntN.{pos}
 use lib.Ieee.{Float}
+use Rattle.std.proofs.Math.Bool.{or_assoc}
+use Rattle.std.proofs.Math.Nat.{zero-add, add_assoc}
 use Rattle.binary32.specs.Numbers.{f32}
 use Rattle.edge.specs.declared.Reading.{Reading}
 use Rattle.edge.specs.Edge.{Told, quotients, valued, edge_by, told}
@@ -41,3 +43,23 @@ seen_both x y k e = ap (seen (x.hit || y.hit)) e
 pub joined_none : (x : Sight) → joined x (seen false no_notes) ≡ x
 unfolding joined
 joined_none x = λ i. seen (or-false x.hit i) (added_none x.notes i)
+
+none_added : (m : Notes) → added no_notes m ≡ m
+none_added m = λ i. record { unsettled = zero-add m.unsettled i; unmatched = zero-add m.unmatched i; readings = zero-add m.readings i }
+
+pub none_joined : (x : Sight) → joined (seen false no_notes) x ≡ x
+unfolding joined
+none_joined x = λ i. seen x.hit (none_added x.notes i)
+
+-- three joined, from the left and from the right
+same_added : (x y z : Notes) → added (added x y) z ≡ added x (added y z)
+same_added x y z =
+    λ i. record {
+      unsettled = add_assoc x.unsettled y.unsettled z.unsettled i;
+      unmatched = add_assoc x.unmatched y.unmatched z.unmatched i;
+      readings = add_assoc x.readings y.readings z.readings i;
+    }
+
+pub joined_assoc : (x y z : Sight) → joined (joined x y) z ≡ joined x (joined y z)
+unfolding joined
+joined_assoc x y z = λ i. seen (or_assoc x.hit y.hit z.hit i) (same_added x.notes y.notes z.notes i)

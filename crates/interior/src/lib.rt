@@ -1,25 +1,25 @@
 // The diagonal pick and the interior test: document 01, 'Diagonal pick' and 'Interior test'. Inner
-// routines for the choice, which has tested its cube. Public: `test_interior`, `test_interior_two`,
+// routines for the choice, which has tested its cube. Public: `test_interior`, for any number of faces, and
 // `test_interior_three`.
 #![tactic(auto)]
 
-ghost use Rattle.std.specs.Prelude.{◌≡◌, ◌+◌, ◌≤◌, [], ◌∷◌, T, pos};
+ghost use Rattle.std.specs.Prelude.{◌≡◌, ◌+◌, ◌*◌, ◌≤◌, [], ◌∷◌, map, T, pos};
+ghost use Rattle.std.specs.Option.{is_some};
 ghost use Rattle.binary32.specs.Numbers.{f32};
 ghost use Rattle.edge.specs.Edge.{quotients, valued, told, is_edge};
 ghost use Rattle.edge.specs.Moves.{read_of};
-ghost use Rattle.interior.specs.Pick.{IsAmbiguousFace, pick_with};
-ghost use Rattle.interior.specs.Diagonals.{diagonals_of, held_by, set_of, edges_of};
+ghost use Rattle.interior.specs.Pick.{pick_with};
+ghost use Rattle.interior.specs.Diagonals.{diagonals_of, held_by, set_of, edges_of, edge_read};
 ghost use Rattle.interior.specs.Settled.{is_past, is_off, is_real};
 ghost use Rattle.interior.specs.Interior.{is_unsettled, seen_as, joined, counted, inside_of};
+
+mod faces;
 
 use cube::bits::{bit, three};
 use cube::{Cube, EdgeNo};
 use edge::{Moves, Reading};
+pub use faces::AmbiguousFace;
 use notes::Notes;
-
-// The face that a pick is made for: 1 to 6.
-#[derive(Clone, Copy)]
-pub struct AmbiguousFace(pub u32);
 
 // The signed number s of an interior test.
 #[derive(Clone, Copy)]
@@ -30,14 +30,6 @@ pub struct Side(pub i8);
 pub struct Sight {
     pub hit: bool,
     pub notes: Notes,
-}
-
-// What the diagonal pick picks: the edge, and whether any pair matched. Edge 0 may be picked by a match, or be left
-// over where there is none.
-#[derive(Clone, Copy)]
-struct Pick {
-    pub edge: EdgeNo,
-    pub matched: bool,
 }
 
 // Which of the pairs (0,6), (1,7), (2,4) and (3,5) match.
@@ -82,19 +74,16 @@ fn edges(n: u32) -> u64
     0x3232_3232_3131_3030
 }
 
-// The diagonal pick, from the pairs that match: with those of `diagonals_of`, document 01's.
-fn interior_ambiguity(d: Diagonals, face: AmbiguousFace) -> Pick
-    requires { IsAmbiguousFace face.0 }
-    ensures pick { result.edge.0 ≡ pos (pick_with (held_by d) face.0).edge }
-    ensures edge { T (is_edge result.edge.0) }
-    ensures matched { result.matched ≡ (pick_with (held_by d) face.0).matched }
+// The diagonal pick, from the pairs that match: with those of `diagonals_of`, document 01's. None where no pair
+// matches; edge 0 is read then.
+fn interior_ambiguity(d: Diagonals, face: AmbiguousFace) -> Option<EdgeNo>
+    ensures pick { edge_read result ≡ pos (pick_with (held_by d) face.n).edge }
+    ensures edge { T (is_edge (edge_read result)) }
+    ensures matched { is_some result ≡ (pick_with (held_by d) face.n).matched }
 {
     let set = set_of(d);
-    let edge = (edges(face.0) >> (4 * set)) % 16;
-    Pick {
-        edge: EdgeNo(edge as i8),
-        matched: set != 0,
-    }
+    let edge = (edges(face.n) >> (4 * set)) % 16;
+    (set != 0).then_some(EdgeNo(edge as i8))
 }
 
 // Whether a reading's value is 1.
@@ -102,8 +91,7 @@ fn value_of(r: Reading) -> bool
     ensures { result ≡ valued f32 quotients (told r) }
 {
     match r {
-        Reading::Rising => true,
-        Reading::Beyond(_) => true,
+        Reading::Rising | Reading::Beyond(_) => true,
         Reading::Crossed(_, product) => product < 0.0,
         Reading::Blank => false,
     }
@@ -113,12 +101,7 @@ fn value_of(r: Reading) -> bool
 fn is_past(r: Reading) -> bool
     ensures { result ≡ is_past (told r) }
 {
-    match r {
-        Reading::Rising => true,
-        Reading::Beyond(_) => true,
-        Reading::Crossed(_, _) => false,
-        Reading::Blank => false,
-    }
+    matches!(r, Reading::Rising | Reading::Beyond(_))
 }
 
 // Whether a reading is crossed with a product below or above zero.
@@ -126,10 +109,8 @@ fn is_off(r: Reading) -> bool
     ensures { result ≡ is_off (told r) }
 {
     match r {
-        Reading::Rising => false,
-        Reading::Beyond(_) => false,
         Reading::Crossed(_, product) => (product < 0.0) | (product > 0.0),
-        Reading::Blank => false,
+        _ => false,
     }
 }
 
@@ -171,46 +152,35 @@ fn join(x: Sight, y: Sight) -> Sight
     }
 }
 
-// The interior test for one face, of cases 6 and 10.
-pub fn test_interior(q: Cube, k: AmbiguousFace, side: Side) -> Sight
-    requires { IsAmbiguousFace k.0 }
-    ensures seen { result ≡ inside_of q (k.0 ∷ []) side.0 }
-    ensures few { counted result ≤ 3 }
-{
-    let values = cube::values(q);
-    let p = interior_ambiguity(diagonals_of(q, side), k);
-    look(edge::moves_of(&values, p.edge), p.matched)
-}
-
-// For two faces, of case 12. All readings are made.
-pub fn test_interior_two(q: Cube, k: AmbiguousFace, l: AmbiguousFace, side: Side) -> Sight
-    requires { IsAmbiguousFace k.0 × IsAmbiguousFace l.0 }
-    ensures seen { result ≡ inside_of q (k.0 ∷ l.0 ∷ []) side.0 }
-    ensures few { counted result ≤ 6 }
+// The interior test for ambiguous faces. All readings are made.
+pub fn test_interior<const N: usize>(q: Cube, faces: [AmbiguousFace; N], side: Side) -> Sight
+    requires { 3 * N ≤ 255 }
+    ensures seen { result ≡ inside_of q (map (λ face. face.n) faces.entry) side.0 }
+    ensures few { counted result ≤ 3 * N }
 {
     let values = cube::values(q);
     let d = diagonals_of(q, side);
-    let first = interior_ambiguity(d, k);
-    let second = interior_ambiguity(d, l);
-    join(
-        look(edge::moves_of(&values, first.edge), first.matched),
-        look(edge::moves_of(&values, second.edge), second.matched),
-    )
+    let mut sofar = Sight {
+        hit: false,
+        notes: notes::none(),
+    };
+    for face in faces {
+        let pick = interior_ambiguity(d, face);
+        let moves = edge::moves_of(&values, pick.unwrap_or(EdgeNo(0)));
+        sofar = join(sofar, look(moves, pick.is_some()));
+    }
+    sofar
 }
 
-// For faces 1, 2 and 5, of cases 4 and 7. All readings are made.
+// For faces 1, 2 and 5, of cases 4 and 7.
 pub fn test_interior_three(q: Cube, side: Side) -> Sight
     ensures seen { result ≡ inside_of q (1 ∷ 2 ∷ 5 ∷ []) side.0 }
     ensures few { counted result ≤ 9 }
 {
-    let values = cube::values(q);
-    let d = diagonals_of(q, side);
-    let p1 = interior_ambiguity(d, AmbiguousFace(1));
-    let p2 = interior_ambiguity(d, AmbiguousFace(2));
-    let p5 = interior_ambiguity(d, AmbiguousFace(5));
-    let rest = join(
-        look(edge::moves_of(&values, p2.edge), p2.matched),
-        look(edge::moves_of(&values, p5.edge), p5.matched),
-    );
-    join(look(edge::moves_of(&values, p1.edge), p1.matched), rest)
+    let faces = [
+        AmbiguousFace { n: 1 },
+        AmbiguousFace { n: 2 },
+        AmbiguousFace { n: 5 },
+    ];
+    test_interior(q, faces, side)
 }

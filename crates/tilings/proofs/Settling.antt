@@ -1,16 +1,12 @@
 -- What makes a choice, with what was counted, and where an interior test leads. Assumes nothing.
-use mathlib.Core.Path.{◌≡◌, sym, subst}
+use mathlib.Core.Path.{◌≡◌}
 use mathlib.Core.Bool.{Bool, true, false}
 use Prim.Native.Nat.{ℕ, ◌+◌, ◌≤◌}
 use native.Mathlib.Omega.{arith}
-use lib.IntN.{ℤ, negsuc, nat_abs}
-use lib.Dec.{T}
-use Rattle.face.specs.Face.{is_face}
+use lib.IntN.{negsuc}
 use Rattle.notes.specs.declared.Notes.{Notes}
 use Rattle.notes.specs.Notes.{tests_of, added, total}
 use Rattle.interior.specs.declared.Sight.{Sight}
-use Rattle.interior.specs.Pick.{IsAmbiguousFace}
-use Rattle.interior.proofs.Unmatched.{one_of_six}
 use Rattle.tilings.specs.Tilings.{has_centre}
 use Rattle.tilings.specs.Plan.{Chosen, tiling, Reached, reach, settled}
 use Rattle.tilings.specs.Answers.{side_of}
@@ -39,7 +35,3 @@ module _ (found : Sight) (f g : Notes → Reached) (k m n : Notes) (ek : k ≡ n
 
 pub other_side : (b : Bool) → b ≡ false → negsuc 6 ≡ side_of b
 other_side b h = rw h
-
--- the ambiguous face of a face that is tested is one of the six
-pub ambiguous_face : (z : ℤ) → T (is_face z) → (k : ℕ) → k ≡ nat_abs z → (k ≡ nat_abs z) × IsAmbiguousFace k
-ambiguous_face z t k e = (e, subst IsAmbiguousFace (sym e) (one_of_six (nat_abs z) t))

@@ -7,7 +7,6 @@ ghost use Rattle.std.specs.Prelude.{◌≡◌, [], ◌∷◌, map, ◌+◌, ◌�
 ghost use Rattle.cube.specs.Bits.{number_of};
 ghost use Rattle.face.specs.Face.{is_face, face_of};
 ghost use Rattle.notes.specs.Notes.{no_notes, tests_of};
-ghost use Rattle.interior.specs.Pick.{IsAmbiguousFace};
 ghost use Rattle.interior.specs.Interior.{counted};
 ghost use Rattle.tilings.specs.Tilings.{has_centre};
 ghost use Rattle.tilings.specs.Plan.{settled, empty, no_tiling, tiling, reach};
@@ -20,7 +19,8 @@ use interior::{AmbiguousFace, Side, Sight};
 use notes::Notes;
 
 // `Untiled` has the configuration and the sub-configuration; `Tiled` the code, row and column, and whether the
-// tiling is drawn with the centre.
+// tiling is drawn with the centre. The code stays a number: any is answered for by `tile`, `plain`, `settle` and
+// `has_centre`, and a type of the 38 codes would ask more of their callers.
 #[derive(Clone, Copy)]
 pub enum Choice {
     Empty,
@@ -182,10 +182,11 @@ pub fn side(positive: bool) -> Side
 // The face that is ambiguous where a signed face is tested.
 pub fn ambiguous(face: Face) -> AmbiguousFace
     requires { T (is_face face.0) }
-    ensures face { result.0 ≡ nat_abs face.0 }
-    ensures six { IsAmbiguousFace result.0 }
+    ensures face { result.n ≡ nat_abs face.0 }
 {
-    AmbiguousFace(face::size(face))
+    AmbiguousFace {
+        n: face::size(face),
+    }
 }
 
 // Three faces asked: 1 for the first, 2 for the second, 4 for the third.
