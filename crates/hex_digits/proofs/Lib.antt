@@ -1,2 +1,2 @@
 pub mod Digits
-mod Joins
+mod Numbers

@@ -1,6 +1,6 @@
 -- Numbers in lower-case hex digits, the first digit the highest, at a place of a line. What is no number has the
 -- value that comes after the greatest: 16 for a digit, 256 for two, 2^32 for eight. Definitions only.
-use Rattle.std.specs.Prelude.{ℕ, ◌+◌, ◌-◌, ◌*◌, ◌&&◌, cond, List, ltb, leb, get_or}
+use Rattle.std.specs.Prelude.{ℕ, ◌+◌, ◌-◌, ◌*◌, ◌&&◌, cond, List, [], ◌∷◌, Option, Some, None, ltb, leb, get_or}
 
 -- from '0' to '9', and from 'a' to 'f'
 unfoldable pub digit_of : ℕ → ℕ
@@ -18,3 +18,8 @@ half_of line at = joined 256 (pair_of line at) (pair_of line (at + 2))
 
 abbrev pub word_of : List ℕ → ℕ → ℕ
 word_of line at = joined 65536 (half_of line at) (half_of line (at + 4))
+
+-- what digits add to the number before them; none where one is no digit
+unfoldable pub number_of : ℕ → List ℕ → Option ℕ
+number_of n [] = Some n
+number_of n (b ∷ bs) = cond (ltb (digit_of b) 16) (number_of (16 * n + digit_of b) bs) None

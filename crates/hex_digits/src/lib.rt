@@ -1,52 +1,45 @@
 // Lower-case hex digits in a line of text. Public: `pair`, `word`.
 #![tactic(auto)]
 
-ghost use Rattle.std.specs.Prelude.{◌≡◌, ◌+◌, ◌≤◌, length};
-ghost use Rattle.hex_digits.specs.Hex.{digit_of, joined, pair_of, half_of, word_of};
+ghost use Rattle.std.specs.Prelude.{◌≡◌, ◌+◌, ◌<◌, ◌≤◌, length, MatchOption};
+ghost use Rattle.hex_digits.specs.Hex.{digit_of, number_of, pair_of, word_of};
 
-// A digit's value, and 16 for any other byte.
-fn digit(b: u8) -> u64
-    ensures { result ≡ digit_of b }
+// A digit's value.
+#[tactic(auto, unfolding(crate::specs::Hex::digit_of))]
+fn digit(b: u8) -> Option<u8>
+    ensures { MatchOption result (digit_of b ≡ 16) (λ d. (d < 16) × (digit_of b ≡ d)) }
 {
-    if (b'0' <= b) & (b <= b'9') {
-        return (b - b'0') as u64;
+    match b {
+        b'0'..=b'9' => Some(b - b'0'),
+        b'a'..=b'f' => Some(b - b'a' + 10),
+        _ => None,
     }
-    if (b'a' <= b) & (b <= b'f') {
-        return (b - b'a') as u64 + 10;
-    }
-    16
 }
 
-// Two numbers below `base` as one, the first the higher; and base × base where one is not below it.
-fn join(base: u64, high: u64, low: u64) -> u64
-    requires { base ≤ 65536 }
-    ensures { result ≡ joined base high low }
+// The value of digits, the first the highest.
+fn number(digits: &[u8]) -> Option<u32>
+    requires { length digits.now ≤ 8 }
+    ensures { result ≡ number_of 0 digits.now }
 {
-    if (high < base) & (low < base) {
-        return high * base + low;
+    let mut n = 0;
+    for b in digits {
+        n = 16 * n + u32::from(digit(*b)?);
     }
-    base * base
+    Some(n)
 }
 
-// The value of the two digits from `at` on, and 256 where one is none.
-pub fn pair(line: &[u8], at: usize) -> u64
+// The value of the two digits from `at` on.
+pub fn pair(line: &[u8], at: usize) -> Option<u8>
     requires { at + 2 ≤ length line.now }
-    ensures { result ≡ pair_of line.now at }
+    ensures { MatchOption result (pair_of line.now at ≡ 256) (λ n. pair_of line.now at ≡ n) }
 {
-    join(16, digit(line[at]), digit(line[at + 1]))
+    Some(number(&line[at..at + 2])? as u8)
 }
 
-fn half(line: &[u8], at: usize) -> u64
-    requires { at + 4 ≤ length line.now }
-    ensures { result ≡ half_of line.now at }
-{
-    join(256, pair(line, at), pair(line, at + 2))
-}
-
-// The value of the eight digits from `at` on, and 2^32 where one is none.
-pub fn word(line: &[u8], at: usize) -> u64
+// The value of the eight digits from `at` on.
+pub fn word(line: &[u8], at: usize) -> Option<u32>
     requires { at + 8 ≤ length line.now }
-    ensures { result ≡ word_of line.now at }
+    ensures { MatchOption result (word_of line.now at ≡ 0x1_0000_0000) (λ n. word_of line.now at ≡ n) }
 {
-    join(65536, half(line, at), half(line, at + 4))
+    number(&line[at..at + 8])
 }
