@@ -1,4 +1,4 @@
 mod Columns
 mod Controls
-mod Places
+pub mod Places
 pub mod Readings

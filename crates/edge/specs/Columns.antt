@@ -1,17 +1,15 @@
 -- How the code of the edge reading keeps its table. Definitions only.
-use Rattle.std.specs.Prelude.{ℕ, ◌+◌, ◌*◌, cond, List, [], ◌∷◌, ℤ, pos, negsuc, ltb, get_or}
-use Rattle.edge.specs.Edge.{Move, moves}
+use Rattle.std.specs.Prelude.{ℕ, cond, List, [], ◌∷◌, map, ℤ, nat_abs, Option, Some, None}
+use Rattle.edge.specs.Edge.{Move, move_of, is_edge}
 
--- the edge number, and 12 where there is no such edge
-unfoldable pub place_of : ℤ → ℕ
-place_of (pos k) = cond (ltb k 12) k 12
-place_of (negsuc k) = 12
+-- the edge's place in the table, where there is such an edge
+abbrev pub place_of : ℤ → Option ℕ
+place_of n = cond (is_edge n) (Some (nat_abs n)) None
 
--- moves as one number, whose hex digits from the last are u and v of each
-abbrev pub packed : List Move → ℕ
-packed [] = 0
-packed (m ∷ ms) = m.u + 16 * (m.v + 16 * packed ms)
+-- a move's corners, as the code has them
+abbrev pub ends_of : Move → ℕ × ℕ
+ends_of m = (m.u, m.v)
 
--- the moves of an edge as a number, and 0 where there is no such edge
-unfoldable pub row_of : ℕ → ℕ
-row_of k = packed (get_or moves k [])
+-- moves 1 to 4 of an edge
+abbrev pub row_of : ℤ → List (ℕ × ℕ)
+row_of n = map (λ k. ends_of (move_of n k)) (0 ∷ 1 ∷ 2 ∷ 3 ∷ [])

@@ -1,15 +1,14 @@
 -- Document 01, 'Edge reading', over any kind of number, and what the public routine answers. Definitions only.
-use Rattle.std.specs.Prelude.{ℕ, Bool, true, false, cond, ◌||◌, List, [], ◌∷◌, ℤ, pos, negsuc, ltb, get_or, Float}
+use Rattle.std.specs.Prelude.{ℕ, Bool, true, false, cond, ◌||◌, List, [], ◌∷◌, ℤ, pos, negsuc, ltb, get_or, Float, Result, Ok, Err}
 use Rattle.std.specs.Float.{fin, binary32}
 use Rattle.std.specs.Float.Ieee.{neg, add, sub, mul, div, lt, eq, is_nan}
 use Rattle.binary32.specs.Numbers.{Numbers, plus_zero, f32}
 use Rattle.cube.specs.declared.Cube.{Cube}
 use Rattle.cube.specs.Corners.{corner_of, all_finite}
+use Rattle.cube.specs.declared.Refusal.{Refusal}
 use Rattle.cube.specs.Refusals.{refusal_number}
 use Rattle.edge.specs.declared.Reading.{Reading}
 use Rattle.edge.specs.declared.Reading.TheVariants.{Rising, Beyond, Crossed, Blank}
-use Rattle.edge.specs.declared.EdgeAnswer.{EdgeAnswer}
-use Rattle.edge.specs.declared.EdgeAnswer.TheVariants.{Read, Refused}
 
 -- u→v
 pub record Move : Type 0 where
@@ -147,9 +146,9 @@ told (Beyond t) = beyond t
 told (Crossed t p) = crossed t p
 told Blank = blank
 
-abbrev pub said : EdgeAnswer → Said
-said (Read r) = reading (told r)
-said (Refused why) = refused (refusal_number why)
+abbrev pub said : Result Reading Refusal → Said
+said (Ok r) = reading (told r)
+said (Err why) = refused (refusal_number why)
 
 unfoldable pub edge_reading_of : Cube → ℤ → Said
 edge_reading_of q n = cond (is_edge n) (cond (all_finite q) (reading (edge_of q n)) (refused 3)) (refused 5)

@@ -5,14 +5,14 @@
 
 ghost use Rattle.std.specs.Prelude.{◌≡◌};
 ghost use Rattle.std.specs.Float.{binary32};
-ghost use Rattle.std.specs.Float.Ieee.{add, mul};
+ghost use Rattle.std.specs.Float.Ieee.{add, sub, mul};
 ghost use Rattle.binary32.specs.Numbers.{f32};
 ghost use Rattle.cube.specs.Corners.{value_at};
 ghost use Rattle.edge.specs.Edge.{a_of, b_of, quotients, edge_by, told, said, edge_reading_of};
 ghost use Rattle.edge.specs.Columns.{place_of, row_of};
 ghost use Rattle.edge.specs.Moves.{moves_of, product_of, read_of};
 
-use cube::{Cube, EdgeNo, Refusal, Split};
+use cube::{Corner, Cube, EdgeNo, Refusal};
 
 // What is read at an edge: `Rising` where a > 0, `Beyond` with t where t < 0 or t > 1, `Crossed` with t and the
 // product, or `Blank` where t or the product is NaN.
@@ -22,13 +22,6 @@ pub enum Reading {
     Beyond(f32),
     Crossed(f32, f32),
     Blank,
-}
-
-// What the edge reading says.
-#[derive(Clone, Copy)]
-pub enum EdgeAnswer {
-    Read(Reading),
-    Refused(Refusal),
 }
 
 // The four moves u→v of an edge: the value at u, and g = v - u.
@@ -44,55 +37,70 @@ pub struct Moves {
     pub g4: f32,
 }
 
-// The edge number, and 12 where there is no such edge.
-fn place(edge: EdgeNo) -> u32
+// The moves u→v of each edge: the corners of each.
+static MOVES: [[(u8, u8); 4]; 12] = [
+    [(1, 0), (5, 4), (6, 7), (2, 3)],
+    [(2, 3), (1, 0), (5, 4), (6, 7)],
+    [(3, 2), (7, 6), (4, 5), (0, 1)],
+    [(0, 1), (3, 2), (7, 6), (4, 5)],
+    [(1, 2), (0, 3), (4, 7), (5, 6)],
+    [(0, 3), (1, 2), (5, 6), (4, 7)],
+    [(3, 0), (7, 4), (6, 5), (2, 1)],
+    [(2, 1), (3, 0), (7, 4), (6, 5)],
+    [(0, 4), (3, 7), (2, 6), (1, 5)],
+    [(1, 5), (0, 4), (3, 7), (2, 6)],
+    [(2, 6), (1, 5), (0, 4), (3, 7)],
+    [(3, 7), (2, 6), (1, 5), (0, 4)],
+];
+
+// The edge's place in the table, where there is such an edge.
+fn place(edge: EdgeNo) -> Option<usize>
     ensures { result ≡ place_of edge.0 }
 {
-    match cube::take_apart(edge.0) {
-        Split::NotBelow(k) => { if k < 12 { k as u32 } else { 12 } }
-        Split::Below(_) => 12,
+    match usize::try_from(edge.0) {
+        Ok(k) if k < 12 => Some(k),
+        _ => None,
     }
 }
 
-// The corners of an edge's moves as hex digits, from the last: u and v of move 1, of move 2 and so on.
-fn row(k: u32) -> u64
-    ensures { result ≡ row_of k }
+// The corners of an edge's moves. A number that is no edge moves from corner 0 to itself four times.
+fn row(edge: EdgeNo) -> [(u8, u8); 4]
+    ensures { result ≡ row_of edge.0 }
 {
-    match k {
-        0 => 0x3276_4501,
-        1 => 0x7645_0132,
-        2 => 0x1054_6723,
-        3 => 0x5467_2310,
-        4 => 0x6574_3021,
-        5 => 0x7465_2130,
-        6 => 0x1256_4703,
-        7 => 0x5647_0312,
-        8 => 0x5162_7340,
-        9 => 0x6273_4051,
-        10 => 0x7340_5162,
-        11 => 0x4051_6273,
-        _ => 0,
+    match place(edge) {
+        Some(k) => MOVES[k],
+        None => [(0, 0); 4],
     }
 }
 
-// The moves of an edge. A number that is no edge moves from corner 0 to itself four times.
+// The value at a move's u, and g = v - u.
+fn value_and_g(values: &[f32; 8], u: u8, v: u8) -> (f32, f32)
+    ensures u { result.0 ≡ value_at values.now u }
+    ensures g { result.1 ≡ sub binary32 (value_at values.now v) (value_at values.now u) }
+{
+    let at_u = cube::value_at(values, Corner(u));
+    (at_u, cube::value_at(values, Corner(v)) - at_u)
+}
+
+// The moves of an edge, by the corners' values.
+#[tactic(auto, unfolding(crate::specs::Moves::moves_of))]
 pub fn moves_of(values: &[f32; 8], edge: EdgeNo) -> Moves
     ensures { result ≡ moves_of (value_at values.now) edge.0 }
 {
-    let row = row(place(edge));
-    let u1 = cube::value_in(values, row, 0);
-    let u2 = cube::value_in(values, row, 2);
-    let u3 = cube::value_in(values, row, 4);
-    let u4 = cube::value_in(values, row, 6);
+    let [(u1, v1), (u2, v2), (u3, v3), (u4, v4)] = row(edge);
+    let (u1, g1) = value_and_g(values, u1, v1);
+    let (u2, g2) = value_and_g(values, u2, v2);
+    let (u3, g3) = value_and_g(values, u3, v3);
+    let (u4, g4) = value_and_g(values, u4, v4);
     Moves {
-        u1: u1,
-        u2: u2,
-        u3: u3,
-        u4: u4,
-        g1: cube::value_in(values, row, 1) - u1,
-        g2: cube::value_in(values, row, 3) - u2,
-        g3: cube::value_in(values, row, 5) - u3,
-        g4: cube::value_in(values, row, 7) - u4,
+        u1,
+        u2,
+        u3,
+        u4,
+        g1,
+        g2,
+        g3,
+        g4,
     }
 }
 
@@ -159,15 +167,15 @@ fn reading_of(values: &[f32; 8], edge: EdgeNo) -> Reading
 }
 
 // The edge reading: refusal 5 where the number is no edge, 3 where a corner is not finite, or the reading.
-pub fn interior_ambiguity_verification(q: Cube, edge: EdgeNo) -> EdgeAnswer
+#[tactic(auto, using(crate::proofs::Places::by_no_edge, crate::proofs::Places::by_not_finite, crate::proofs::Places::by_reading))]
+pub fn interior_ambiguity_verification(q: Cube, edge: EdgeNo) -> Result<Reading, Refusal>
     ensures { said result ≡ edge_reading_of q edge.0 }
 {
-    if place(edge) == 12 {
-        return EdgeAnswer::Refused(Refusal::NoEdge);
+    if place(edge).is_none() {
+        return Err(Refusal::NoEdge);
     }
     if !cube::all_finite(q) {
-        return EdgeAnswer::Refused(Refusal::NotFinite);
+        return Err(Refusal::NotFinite);
     }
-    let values = cube::values(q);
-    EdgeAnswer::Read(reading_of(&values, edge))
+    Ok(reading_of(&cube::values(q), edge))
 }
