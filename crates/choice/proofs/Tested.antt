@@ -6,12 +6,11 @@ use native.Mathlib.Nat.{suc-ne-zero}
 use lib.IntN.{ℤ, pos, negsuc}
 use lib.Dec.{leb, ltb, eqb, ltb→lt}
 use lib.ListN.{get_or}
+use Rattle.std.specs.Prelude.{Result, Ok, Err}
 use lib.Ieee.Fits.{and_l}
 use mir.Syntax.{w8}
 use mir.Val.{SFits, to_z, of_z}
 use Rattle.cube.specs.declared.Cube.{Cube}
-use Rattle.cube.specs.declared.Split.{Split}
-use Rattle.cube.specs.declared.Split.TheVariants.{NotBelow, Below}
 use Rattle.cube.specs.Signs.{split_value}
 use Rattle.cube.proofs.Signs.{taken}
 use Rattle.cube.specs.Corners.{all_finite}
@@ -45,25 +44,25 @@ module _ (q : Cube) where
   unfolding refusal_of
   no_such k y e = suc-ne-zero 0 e
 
-  module _ (x y : ℤ) (e : refusal_of x y q ≡ 0) (r : Split) (fx : SFits w8 x) (ex : split_value r ≡ to_z w8 (of_z w8 x)) where
-    pub no_case : (k : ℕ) → r ≡ Below k → (t : Reached) → t ≡ choice_of x y q
-    no_case k g t = absurd (no_such k y (subst (λ (z : ℤ). refusal_of z y q ≡ 0) (taken x r fx ex (Below k) g) e))
+  module _ (x y : ℤ) (e : refusal_of x y q ≡ 0) (r : Result ℕ ℕ) (fx : SFits w8 x) (ex : split_value r ≡ to_z w8 (of_z w8 x)) where
+    pub no_case : (k : ℕ) → r ≡ Err k → (t : Reached) → t ≡ choice_of x y q
+    no_case k g t = absurd (no_such k y (subst (λ (z : ℤ). refusal_of z y q ≡ 0) (taken x r fx ex (Err k) g) e))
 
-    module _ (s : Split) (fy : SFits w8 y) (ey : split_value s ≡ to_z w8 (of_z w8 y)) where
+    module _ (s : Result ℕ ℕ) (fy : SFits w8 y) (ey : split_value s ≡ to_z w8 (of_z w8 y)) where
       -- the case and the configuration taken apart
-      apart : (v w : Split) → r ≡ v → s ≡ w → choice_of x y q ≡ choice_of (split_value v) (split_value w) q
+      apart : (v w : Result ℕ ℕ) → r ≡ v → s ≡ w → choice_of x y q ≡ choice_of (split_value v) (split_value w) q
       apart v w g h = rw (taken x r fx ex v g, taken y s fy ey w h)
 
-      apart_made : (v w : Split) → r ≡ v → s ≡ w → refusal_of (split_value v) (split_value w) q ≡ 0
+      apart_made : (v w : Result ℕ ℕ) → r ≡ v → s ≡ w → refusal_of (split_value v) (split_value w) q ≡ 0
       apart_made v w g h = rw (← taken x r fx ex v g, ← taken y s fy ey w h) e
 
-      module _ (k c : ℕ) (g : r ≡ NotBelow k) where
-        pub room : s ≡ NotBelow c → c < get_or configurations k 0
-        room h = its_own k c (apart_made (NotBelow k) (NotBelow c) g h)
+      module _ (k c : ℕ) (g : r ≡ Ok k) where
+        pub room : s ≡ Ok c → c < get_or configurations k 0
+        room h = its_own k c (apart_made (Ok k) (Ok c) g h)
 
-        pub plan_chosen : s ≡ NotBelow c → (t : Reached) → t ≡ run (answers_of q) (plan_of k c) no_notes → t ≡ choice_of x y q
+        pub plan_chosen : s ≡ Ok c → (t : Reached) → t ≡ run (answers_of q) (plan_of k c) no_notes → t ≡ choice_of x y q
         unfolding choice_of
-        plan_chosen h t i = i ∙ sym (apart (NotBelow k) (NotBelow c) g h)
+        plan_chosen h t i = i ∙ sym (apart (Ok k) (Ok c) g h)
 
-        pub nothing_chosen : s ≡ Below c → (t : Reached) → t ≡ reach empty no_notes → t ≡ choice_of x y q
-        nothing_chosen h t i = i ∙ nothing_else k c (apart_made (NotBelow k) (Below c) g h) ∙ sym (apart (NotBelow k) (Below c) g h)
+        pub nothing_chosen : s ≡ Err c → (t : Reached) → t ≡ reach empty no_notes → t ≡ choice_of x y q
+        nothing_chosen h t i = i ∙ nothing_else k c (apart_made (Ok k) (Err c) g h) ∙ sym (apart (Ok k) (Err c) g h)

@@ -1,15 +1,15 @@
 -- Document 01, 'A choice' and 'What is refused': the refusal and the choice for any case, configuration and cube, side by side. Definitions only.
-use Rattle.std.specs.Prelude.{ℕ, Bool, false, cond, ◌&&◌, ℤ, pos, negsuc, leb, ltb, eqb, get_or}
+use Rattle.std.specs.Prelude.{ℕ, Bool, false, cond, ◌&&◌, ℤ, pos, negsuc, leb, ltb, eqb, get_or, Option, Some, None, Result, Ok, Err}
 use Rattle.cube.specs.declared.Cube.{Cube}
+use Rattle.cube.specs.declared.Refusal.{Refusal}
 use Rattle.cube.specs.Corners.{all_finite}
 use Rattle.cube.specs.Refusals.{refusal_number}
 use Rattle.notes.specs.Notes.{no_notes}
+use Rattle.tilings.specs.declared.Counted.{Counted}
 use Rattle.tilings.specs.Tilings.{configurations}
 use Rattle.tilings.specs.Plan.{Reached, run}
 use Rattle.tilings.specs.Answers.{answers_of, reached}
 use Rattle.families.specs.Plans.{plan_of}
-use Rattle.choice.specs.declared.Answer.{Answer}
-use Rattle.choice.specs.declared.Answer.TheVariants.{Chosen, Refused}
 
 -- 0 to 14
 abbrev pub is_case : ℤ → Bool
@@ -50,6 +50,11 @@ answer_of case configuration q =
     cond (eqb n 0) (made (choice_of case configuration q)) (refused n)
 
 -- the answers of the code by document 01's numbers
-abbrev pub said : Answer → Said
-said (Chosen r) = made (reached r)
-said (Refused why) = refused (refusal_number why)
+abbrev pub said : Result Counted Refusal → Said
+said (Ok r) = made (reached r)
+said (Err why) = refused (refusal_number why)
+
+-- and a refusal of the code by its number, 0 where there is none
+abbrev pub number_or_0 : Option Refusal → ℕ
+number_or_0 None = 0
+number_or_0 (Some why) = refusal_number why

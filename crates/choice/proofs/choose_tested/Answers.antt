@@ -2,6 +2,7 @@
 use mathlib.Core.Path.{sym, ◌∙◌}
 use Rattle.choice.proofs.Tested.{with_few, room, plan_chosen, nothing_chosen, no_case}
 use Rattle.choice.proofs.choose_tested.Goals as goal
+use Rattle.choice.proofs.choose_tested.Goals.{in_default-via-in-Ok+in_default, in_default-via-in_default}
 
 pub choose-requires : goal.choose-requires
 choose-requires c = search room
@@ -21,14 +22,11 @@ returns-else-asks-clause-choice c = search plan_chosen
 pub returns-else-asks-clause-few : goal.returns-else-asks-clause-few
 returns-else-asks-clause-few c = (with_few _ _ _ c.requires _ (returns-else-asks-clause-choice c)).1
 
-pub returns-in-Below-take_apart-clause-choice : goal.returns-in-Below-take_apart-clause-choice
-returns-in-Below-take_apart-clause-choice c = search nothing_chosen
+pub returns-in_default-clause-choice : goal.returns-in_default-clause-choice
+returns-in_default-clause-choice c = elim c.in_default.branch [
+  | in_default-via-in-Ok+in_default w ↦ search nothing_chosen
+  | in_default-via-in_default w ↦ search no_case
+]
 
-pub returns-in-Below-take_apart-clause-few : goal.returns-in-Below-take_apart-clause-few
-returns-in-Below-take_apart-clause-few c = (with_few _ _ _ c.requires _ (returns-in-Below-take_apart-clause-choice c)).1
-
-pub returns-in-Below-clause-choice : goal.returns-in-Below-clause-choice
-returns-in-Below-clause-choice c = search no_case
-
-pub returns-in-Below-clause-few : goal.returns-in-Below-clause-few
-returns-in-Below-clause-few c = (with_few _ _ _ c.requires _ (returns-in-Below-clause-choice c)).1
+pub returns-in_default-clause-few : goal.returns-in_default-clause-few
+returns-in_default-clause-few c = (with_few _ _ _ c.requires _ (returns-in_default-clause-choice c)).1
