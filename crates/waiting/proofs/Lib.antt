@@ -1,2 +1,2 @@
 mod Controls
-mod Passing
+mod Retries
