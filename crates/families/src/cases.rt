@@ -1,4 +1,4 @@
-// Cases 3, 4, 6 and 7 of document 01, 'Choice': for each the columns of its TEST table, eight rows to a line,
+// Cases 3, 4, 6 and 7 of document 01, 'Choice': for each the columns of its TEST table, row by row,
 // and its function, which follows the case's plan. The column s is a rule: 7 in the first half of the rows of
 // cases 4, 6 and 7, -7 in the second.
 ghost use Rattle.std.specs.Prelude.{◌≡◌, ◌<◌, ◌≤◌};
@@ -12,17 +12,15 @@ use face::face_answer;
 use interior::{test_interior, test_interior_three};
 use tilings::*;
 
-const FACE_3: [[i8; 8]; 3] = [
-    [5, 1, 4, 5, 1, 2, 2, 3],
-    [4, 3, 6, 6, -6, -6, -3, -4],
-    [-3, -2, -2, -1, -5, -4, -1, -5],
+static FACE_3: [i8; 24] = [
+    5, 1, 4, 5, 1, 2, 2, 3, 4, 3, 6, 6, -6, -6, -3, -4, -3, -2, -2, -1, -5, -4, -1, -5,
 ];
 
 pub fn case_3(q: Cube, c: u8) -> Counted
     requires { c < 24 }
     ensures { reached result ≡ run (answers_of q) (plan3 c) no_notes }
 {
-    if face_answer(q, Face(FACE_3[(c / 8) as usize][(c % 8) as usize])) {
+    if face_answer(q, Face(FACE_3[c as usize])) {
         return plain(TILING_3_2, c, 1);
     }
     plain(TILING_3_1, c, 1)
@@ -42,39 +40,52 @@ pub fn case_4(q: Cube, c: u8) -> Counted
     )
 }
 
-const FACE_6: [[i8; 8]; 6] = [
-    [2, 4, 5, 5, 1, 3, 6, 1],
-    [4, 1, 3, 5, 5, 1, 6, 2],
-    [4, 2, 2, 6, 3, 4, 3, 6],
-    [-6, -3, -4, -3, -6, -2, -2, -4],
-    [-2, -6, -1, -5, -5, -3, -1, -4],
-    [-1, -6, -3, -1, -5, -5, -4, -2],
+static FACE_6: [i8; 48] = [
+    2, 4, 5, 5, 1, 3, 6, 1, 4, 1, 3, 5, 5, 1, 6, 2, 4, 2, 2, 6, 3, 4, 3, 6, -6, -3, -4, -3, -6, -2,
+    -2, -4, -2, -6, -1, -5, -5, -3, -1, -4, -1, -6, -3, -1, -5, -5, -4, -2,
 ];
 
 pub fn case_6(q: Cube, c: u8) -> Counted
     requires { c < 48 }
     ensures { reached result ≡ run (answers_of q) (plan6 c) no_notes }
 {
-    let face = Face(FACE_6[(c / 8) as usize][(c % 8) as usize]);
+    let face = Face(FACE_6[c as usize]);
     if face_answer(q, face) {
         return plain(TILING_6_2, c, 1);
     }
-    let found = test_interior(q, ambiguous(face), side(c < 24));
+    let found = test_interior(q, [ambiguous(face)], side(c < 24));
     settle(found, 1, TILING_6_1_1, c, TILING_6_1_2, c)
 }
 
-const FIRST_7: [[i8; 8]; 2] = [[1, 3, 4, 4, 2, 1, 2, 3], [-3, -2, -1, -2, -4, -4, -3, -1]];
-
-const SECOND_7: [[i8; 8]; 2] = [[2, 4, 1, 1, 3, 2, 3, 4], [-4, -3, -2, -3, -1, -1, -4, -2]];
-
-const THIRD_7: [[i8; 8]; 2] = [[5, 5, 6, 5, 5, 6, 6, 6], [-6, -6, -6, -5, -5, -6, -5, -5]];
-
-// The tilings of case 7 by sub-configuration, below 7.
-const TILING_OF_7: [u8; 7] = [
-    TILING_7_1, TILING_7_2, TILING_7_2, TILING_7_3, TILING_7_2, TILING_7_3, TILING_7_3,
+static FACES_7: [(i8, i8, i8); 16] = [
+    (1, 2, 5),
+    (3, 4, 5),
+    (4, 1, 6),
+    (4, 1, 5),
+    (2, 3, 5),
+    (1, 2, 6),
+    (2, 3, 6),
+    (3, 4, 6),
+    (-3, -4, -6),
+    (-2, -3, -6),
+    (-1, -2, -6),
+    (-2, -3, -5),
+    (-4, -1, -5),
+    (-4, -1, -6),
+    (-3, -4, -5),
+    (-1, -2, -5),
 ];
 
-const COLUMN_OF_7: [u8; 7] = [0, 0, 1, 0, 2, 1, 2];
+// The tilings of case 7 with their columns by sub-configuration, below 7.
+static TILED_7: [(u8, u8); 7] = [
+    (TILING_7_1, 0),
+    (TILING_7_2, 0),
+    (TILING_7_2, 1),
+    (TILING_7_3, 0),
+    (TILING_7_2, 2),
+    (TILING_7_3, 1),
+    (TILING_7_3, 2),
+];
 
 // After the three face tests.
 fn part_7(q: Cube, c: u8, sub: u32) -> Counted
@@ -92,21 +103,15 @@ fn part_7(q: Cube, c: u8, sub: u32) -> Counted
             c,
         );
     }
-    let i = sub as usize;
-    tile(TILING_OF_7[i], c, COLUMN_OF_7[i], notes::tests(3))
+    let (code, column) = TILED_7[sub as usize];
+    tile(code, c, column, notes::tests(3))
 }
 
 pub fn case_7(q: Cube, c: u8) -> Counted
     requires { c < 16 }
     ensures { reached result ≡ run (answers_of q) (plan7 c) no_notes }
 {
-    let i = (c / 8) as usize;
-    let k = (c % 8) as usize;
-    let sub = ask_three(
-        q,
-        Face(FIRST_7[i][k]),
-        Face(SECOND_7[i][k]),
-        Face(THIRD_7[i][k]),
-    );
+    let (x, y, z) = FACES_7[c as usize];
+    let sub = ask_three(q, Face(x), Face(y), Face(z));
     part_7(q, c, sub)
 }

@@ -12,49 +12,75 @@ use cube::{Cube, Face};
 use thirteen::interior_test_case13;
 use tilings::*;
 
-const FIRST_13: [i8; 2] = [1, 2];
+// The faces asked, by configuration.
+static TEST_13: [[i8; 6]; 2] = [[1, 2, 3, 4, 5, 6], [2, 3, 4, 1, 5, 6]];
 
-const SECOND_13: [i8; 2] = [2, 3];
-
-const THIRD_13: [i8; 2] = [3, 4];
-
-const FOURTH_13: [i8; 2] = [4, 1];
-
-const FIFTH_13: [i8; 2] = [5, 5];
-
-const SIXTH_13: [i8; 2] = [6, 6];
-
-const NONE: u8 = 0;
-
-// The tilings and columns of case 13 by sub-configuration: SUB_CONFIG_13 and what follows from its number.
-const TILING_OF_13: [[u8; 4]; 16] = [
-    [TILING_13_1, TILING_13_2, TILING_13_2, TILING_13_3],
-    [TILING_13_2, NONE, TILING_13_3, NONE],
-    [TILING_13_2, TILING_13_3, NONE, NONE],
-    [TILING_13_3, NONE, NONE, NONE],
-    [TILING_13_2, TILING_13_3, TILING_13_3, TILING_13_5_1],
-    [TILING_13_3, NONE, TILING_13_4, TILING_13_3_],
-    [TILING_13_3, TILING_13_4, NONE, TILING_13_3_],
-    [TILING_13_5_1, TILING_13_3_, TILING_13_3_, TILING_13_2_],
-    [TILING_13_2, TILING_13_3, TILING_13_3, TILING_13_4],
-    [TILING_13_3, NONE, TILING_13_5_1, TILING_13_3_],
-    [TILING_13_3, TILING_13_5_1, NONE, TILING_13_3_],
-    [TILING_13_4, TILING_13_3_, TILING_13_3_, TILING_13_2_],
-    [NONE, NONE, NONE, TILING_13_3_],
-    [NONE, NONE, TILING_13_3_, TILING_13_2_],
-    [NONE, TILING_13_3_, NONE, TILING_13_2_],
-    [TILING_13_3_, TILING_13_2_, TILING_13_2_, TILING_13_1_],
-];
-
-const COLUMN_OF_13: [[u8; 8]; 8] = [
-    [0, 0, 1, 0, 2, 0, 4, 0],
-    [3, 1, 0, 0, 7, 0, 0, 0],
-    [4, 2, 5, 0, 8, 0, 2, 11],
-    [10, 1, 0, 9, 3, 6, 3, 5],
-    [5, 3, 6, 0, 9, 0, 2, 10],
-    [11, 1, 0, 8, 3, 5, 2, 4],
-    [0, 0, 0, 7, 0, 0, 1, 3],
-    [0, 4, 0, 2, 0, 1, 0, 0],
+// The tiling and the column by sub-configuration: SUB_CONFIG_13 and what follows from its number.
+static TILED_13: [Option<(u8, u8)>; 64] = [
+    Some((TILING_13_1, 0)),
+    Some((TILING_13_2, 0)),
+    Some((TILING_13_2, 1)),
+    Some((TILING_13_3, 0)),
+    Some((TILING_13_2, 2)),
+    None,
+    Some((TILING_13_3, 4)),
+    None,
+    Some((TILING_13_2, 3)),
+    Some((TILING_13_3, 1)),
+    None,
+    None,
+    Some((TILING_13_3, 7)),
+    None,
+    None,
+    None,
+    Some((TILING_13_2, 4)),
+    Some((TILING_13_3, 2)),
+    Some((TILING_13_3, 5)),
+    Some((TILING_13_5_1, 0)),
+    Some((TILING_13_3, 8)),
+    None,
+    Some((TILING_13_4, 2)),
+    Some((TILING_13_3_, 11)),
+    Some((TILING_13_3, 10)),
+    Some((TILING_13_4, 1)),
+    None,
+    Some((TILING_13_3_, 9)),
+    Some((TILING_13_5_1, 3)),
+    Some((TILING_13_3_, 6)),
+    Some((TILING_13_3_, 3)),
+    Some((TILING_13_2_, 5)),
+    Some((TILING_13_2, 5)),
+    Some((TILING_13_3, 3)),
+    Some((TILING_13_3, 6)),
+    Some((TILING_13_4, 0)),
+    Some((TILING_13_3, 9)),
+    None,
+    Some((TILING_13_5_1, 2)),
+    Some((TILING_13_3_, 10)),
+    Some((TILING_13_3, 11)),
+    Some((TILING_13_5_1, 1)),
+    None,
+    Some((TILING_13_3_, 8)),
+    Some((TILING_13_4, 3)),
+    Some((TILING_13_3_, 5)),
+    Some((TILING_13_3_, 2)),
+    Some((TILING_13_2_, 4)),
+    None,
+    None,
+    None,
+    Some((TILING_13_3_, 7)),
+    None,
+    None,
+    Some((TILING_13_3_, 1)),
+    Some((TILING_13_2_, 3)),
+    None,
+    Some((TILING_13_3_, 4)),
+    None,
+    Some((TILING_13_2_, 2)),
+    Some((TILING_13_3_, 0)),
+    Some((TILING_13_2_, 1)),
+    Some((TILING_13_2_, 0)),
+    Some((TILING_13_1_, 0)),
 ];
 
 // After the six face tests. 13_5 is told by one test more, and 13_5_2 is at the other configuration's row.
@@ -75,24 +101,18 @@ fn part_13(q: Cube, c: u8, sub: u32) -> Counted
     requires { (c < 2) × (sub ≤ 63) }
     ensures { reached result ≡ run (answers_of q) (part_at13 c sub) (tests_of 6) }
 {
-    let code = TILING_OF_13[(sub / 4) as usize][(sub % 4) as usize];
-    if code == NONE {
-        return untiled(c, sub as u8, notes::tests(6));
+    match TILED_13[sub as usize] {
+        Some((code, column)) => tile_13(q, c, code, column),
+        None => untiled(c, sub as u8, notes::tests(6)),
     }
-    tile_13(
-        q,
-        c,
-        code,
-        COLUMN_OF_13[(sub / 8) as usize][(sub % 8) as usize],
-    )
 }
 
 pub fn case_13(q: Cube, c: u8) -> Counted
     requires { c < 2 }
     ensures { reached result ≡ run (answers_of q) (plan13 c) no_notes }
 {
-    let i = c as usize;
-    let low = ask_three(q, Face(FIRST_13[i]), Face(SECOND_13[i]), Face(THIRD_13[i]));
-    let high = ask_three(q, Face(FOURTH_13[i]), Face(FIFTH_13[i]), Face(SIXTH_13[i]));
+    let faces = TEST_13[c as usize];
+    let low = ask_three(q, Face(faces[0]), Face(faces[1]), Face(faces[2]));
+    let high = ask_three(q, Face(faces[3]), Face(faces[4]), Face(faces[5]));
     part_13(q, c, low + 8 * high)
 }
