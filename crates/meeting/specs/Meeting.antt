@@ -1,16 +1,15 @@
 -- Term 3: two cubes that meet at a face (1 with 3, 2 with 4, 5 with 6), with the same four alternating values there, each magnitude from
 -- 1e-6 as an f32 to 2 ^ 63: their face answers are equal exactly when the two signed face numbers have the same sign, whatever stands off
 -- that face. Below it, what the routine that compares two faces says. Definitions only.
-use Rattle.std.specs.Prelude.{◌≡◌, ◌↔◌, Bool, true, false, cond, ◌&&◌, ◌||◌, List, [], ◌∷◌, map, ℕ, T, eqb, ℤ, nat_abs, get_or, Float}
+use Rattle.std.specs.Prelude.{◌≡◌, ◌↔◌, Bool, true, false, cond, ◌&&◌, ◌||◌, List, [], ◌∷◌, map, ℕ, T, eqb, ℤ, nat_abs, get_or, Float, Option, Some, None, Result, Ok, Err}
 use Rattle.std.specs.Bool.{beq}
 use Rattle.std.specs.Float.Ieee.{eq}
 use Rattle.cube.specs.declared.Cube.{Cube}
 use Rattle.cube.specs.Corners.{corner_of, all_finite}
+use Rattle.cube.specs.declared.Refusal.{Refusal}
 use Rattle.cube.specs.Refusals.{refusal_number}
 use Rattle.face.specs.Face.{face_corners, face_corner, face_of, is_face, is_positive}
 use Rattle.face.specs.Laws.{alternate}
-use Rattle.meeting.specs.declared.Compared.{Compared}
-use Rattle.meeting.specs.declared.Compared.TheVariants.{Equal, Apart, Refused}
 
 -- a cube's values at some corners
 abbrev pub values_at : Cube → List ℕ → List Float
@@ -62,10 +61,10 @@ pub data Said : Type 0 where
   refused : ℕ → Said
 
 -- the answers of the code by document 01's values and numbers
-abbrev pub said : Compared → Said
-said (Equal b) = equal b
-said Apart = apart
-said (Refused why) = refused (refusal_number why)
+abbrev pub said : Result (Option Bool) Refusal → Said
+said (Ok (Some b)) = equal b
+said (Ok None) = apart
+said (Err why) = refused (refusal_number why)
 
 unfoldable pub compared_of : Cube → ℤ → Cube → ℤ → Said
 compared_of k n l p =
@@ -76,5 +75,5 @@ compared_of k n l p =
     (refused 4)
 
 -- term 3 of a comparison's result: the answers are equal exactly when the two numbers have the same sign
-abbrev pub AgreeBySign : ℤ → ℤ → Compared → Type 0
-AgreeBySign n p r = (b : Bool) → r ≡ Equal b → (b ≡ true) ↔ (is_positive n ≡ is_positive p)
+abbrev pub AgreeBySign : ℤ → ℤ → Result (Option Bool) Refusal → Type 0
+AgreeBySign n p r = (b : Bool) → r ≡ Ok (Some b) → (b ≡ true) ↔ (is_positive n ≡ is_positive p)

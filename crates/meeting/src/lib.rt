@@ -1,22 +1,13 @@
 // Term 3, two cubes that meet at a face: document 01, 'Face test'. Public: `compare_faces`, which refuses.
 #![tactic(auto)]
 
-ghost use Rattle.std.specs.Prelude.{◌≡◌, ◌&&◌};
-ghost use Rattle.face.specs.Columns.{place_of};
+ghost use Rattle.std.specs.Prelude.{◌≡◌};
+ghost use Rattle.face.specs.Face.{is_face};
 ghost use Rattle.face.specs.Laws.{in_range, up_and_down, alternate};
-ghost use Rattle.meeting.specs.Meeting.{meet, alternate_at, said, compared_of, AgreeBySign, FacesAgree};
+ghost use Rattle.meeting.specs.Meeting.{meet, joined, said, compared_of, AgreeBySign, FacesAgree};
 
 use cube::{Cube, Face, Refusal};
-use face::{Square, face_answer, place, square_of};
-
-// What the comparison of two faces says: whether the answers are equal, or that the faces do not meet
-// with the same alternating values in range.
-#[derive(Clone, Copy)]
-pub enum Compared {
-    Equal(bool),
-    Apart,
-    Refused(Refusal),
-}
+use face::{Square, face_answer, place, size, square_of};
 
 // From 1e-6 to 2^63.
 fn ranged(x: f32) -> bool
@@ -25,12 +16,14 @@ fn ranged(x: f32) -> bool
     (0.000001 <= x) & (x <= 9223372036854775808.0)
 }
 
+#[tactic(auto, unfolding(face::specs::Laws::up_and_down))]
 fn up_and_down(a: f32, b: f32, c: f32, d: f32) -> bool
     ensures { result ≡ up_and_down a b c d }
 {
     ranged(a) & ranged(-b) & ranged(c) & ranged(-d)
 }
 
+#[tactic(auto, unfolding(face::specs::Laws::alternate))]
 fn alternates(s: Square) -> bool
     ensures { result ≡ alternate s.a s.b s.c s.d }
 {
@@ -38,6 +31,7 @@ fn alternates(s: Square) -> bool
 }
 
 // Whether face `n` of k, one of 1, 2 and 5, meets face `p` of l with equal values at paired corners.
+#[tactic(auto, using(crate::proofs::Meetings::by_one, crate::proofs::Meetings::by_two, crate::proofs::Meetings::by_five, crate::proofs::Meetings::by_none))]
 fn meets(k: Cube, n: u32, l: Cube, p: u32) -> bool
     ensures { result ≡ meet k n l p }
 {
@@ -49,28 +43,36 @@ fn meets(k: Cube, n: u32, l: Cube, p: u32) -> bool
     }
 }
 
-// Term 3's premises, where n is a face of the first cube and p one of the second.
-fn joins(k: Cube, n: Face, l: Cube, p: Face) -> bool
-    ensures { result ≡ (meet k (place_of n.0) l (place_of p.0) && alternate_at k n.0) }
+fn is_face(n: Face) -> bool
+    ensures { result ≡ is_face n.0 }
 {
-    meets(k, place(n), l, place(p)) & alternates(square_of(k, n))
+    place(n).is_some()
+}
+
+// Term 3's premises, where n is a face of the first cube and p one of the second.
+#[tactic(auto, unfolding(crate::specs::Meeting::joined, crate::specs::Meeting::alternate_at))]
+fn joins(k: Cube, n: Face, l: Cube, p: Face) -> bool
+    ensures { result ≡ joined k n.0 l p.0 }
+{
+    meets(k, size(n), l, size(p)) & alternates(square_of(k, n))
 }
 
 // Whether two cubes that meet at a face, with the same alternating values in range, answer alike: they do
-// exactly when the two face numbers have the same sign.
-pub fn compare_faces(k: Cube, n: Face, l: Cube, p: Face) -> Compared
+// exactly when the two face numbers have the same sign. `None`: the faces do not meet so.
+#[tactic(auto, using(crate::proofs::Agreement::faces_agree, crate::proofs::Meetings::by_comparison), unfolding(crate::specs::Meeting::compared_of))]
+pub fn compare_faces(k: Cube, n: Face, l: Cube, p: Face) -> Result<Option<bool>, Refusal>
     ensures result { said result ≡ compared_of k n.0 l p.0 }
     ensures by_sign { AgreeBySign n.0 p.0 result }
     ensures term_3 { FacesAgree }
 {
-    if (place(n) == 0) | (place(p) == 0) {
-        return Compared::Refused(Refusal::NoFace);
+    if !(is_face(n) & is_face(p)) {
+        return Err(Refusal::NoFace);
     }
     if !(cube::all_finite(k) & cube::all_finite(l)) {
-        return Compared::Refused(Refusal::NotFinite);
+        return Err(Refusal::NotFinite);
     }
     if joins(k, n, l, p) | joins(l, p, k, n) {
-        return Compared::Equal(face_answer(k, n) == face_answer(l, p));
+        return Ok(Some(face_answer(k, n) == face_answer(l, p)));
     }
-    Compared::Apart
+    Ok(None)
 }
