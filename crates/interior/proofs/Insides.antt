@@ -1,5 +1,5 @@
 -- The interior test for any number of faces, a face at a time, from what is seen at each. Assumes nothing.
-use mathlib.Core.Path.{◌≡◌, refl, sym, ap, ◌∙◌}
+use mathlib.Core.Path.{◌≡◌, sym, ap, ◌∙◌}
 use mathlib.Core.Bool.{Bool, false}
 use mathlib.Core.List.{List, ◌∷◌, map}
 use Prim.Native.Nat.{ℕ, ◌+◌, ◌*◌, ◌≤◌, ◌<◌}
@@ -8,13 +8,11 @@ use lib.Dec.{lit≤}
 use lib.IntN.{ℤ, pos}
 use lib.ListN.{length, drop, get_or}
 use lib.Ieee.{Float}
-use Rattle.std.specs.Option.{is_some, unwrap_or}
-use Rattle.std.proofs.Common.{Option, None, Some, add-one}
+use Rattle.std.proofs.Common.{add-one}
 use Rattle.std.proofs.Math.Seq.{drop-cons}
 use Rattle.std.proofs.Math.ListN.{drop_of_length-le}
 use Rattle.binary32.specs.Numbers.{f32}
 use Rattle.cube.specs.declared.Cube.{Cube}
-use Rattle.cube.specs.declared.EdgeNo.{EdgeNo}
 use Rattle.cube.specs.Corners.{corners, value_at, corner_of}
 use Rattle.edge.specs.declared.Moves.{Moves}
 use Rattle.edge.specs.Edge.{Told, quotients}
@@ -25,7 +23,7 @@ use Rattle.interior.specs.declared.faces.AmbiguousFace.{AmbiguousFace}
 use Rattle.interior.specs.declared.Diagonals.{Diagonals}
 use Rattle.interior.specs.declared.Sight.{Sight}
 use Rattle.interior.specs.Pick.{pick_with, pick_by}
-use Rattle.interior.specs.Diagonals.{diagonals_of, held_by, edge_read}
+use Rattle.interior.specs.Diagonals.{diagonals_of, held_by}
 use Rattle.interior.specs.Interior.{seen, seen_as, look_at, joined, inside_by, inside_of, counted}
 use Rattle.interior.proofs.Bounds.{counted_look, counted_joined}
 use Rattle.interior.proofs.Picks.{same_picks}
@@ -38,23 +36,14 @@ few_seen b t x e = rw e (counted_look f32 quotients b t)
 pub few_more : (n : ℕ) (x y z : Sight) → counted x ≤ 3 * n → counted y ≤ 3 → z ≡ joined x y → counted z ≤ 3 * (n + 1)
 few_more n x y z h i e = rw e (omega (arith, counted_joined x y))
 
--- ---- the edge that is read
-read_or_0 : (pick : Option EdgeNo) → (unwrap_or pick (record { 0 = pos 0 })).0 ≡ edge_read pick
-read_or_0 None = refl
-read_or_0 (Some edge) = refl
-
 module _ (vs : List Float) (d : Diagonals) where
   -- what the code looks at for a face
   abbrev at : ℕ → Sight
   at n = look_at f32 quotients (value_at vs) (pick_with (held_by d) n)
 
-  pub seen_at : (k : ℕ) (pick : Option EdgeNo) (edge : EdgeNo) (b : Bool) (m : Moves) (x : Sight)
-      → edge_read pick ≡ pos (pick_with (held_by d) k).edge → is_some pick ≡ (pick_with (held_by d) k).matched
-      → edge ≡ unwrap_or pick (record { 0 = pos 0 }) → b ≡ is_some pick → m ≡ moves_of (value_at vs) edge.0
-      → x ≡ seen_as f32 quotients b (read_of m) → x ≡ at k
-  seen_at k pick edge b m x ep eb ee es em ex =
-      looked_at (value_at vs) (pick_with (held_by d) k) b m x (es ∙ eb)
-      (em ∙ ap (moves_of (value_at vs)) (ap (λ (n : EdgeNo). n.0) ee ∙ read_or_0 pick ∙ ep)) ex
+  pub seen_at : (k : ℕ) (e : ℤ) (b : Bool) (m : Moves) (x : Sight)
+      → e ≡ pos (pick_with (held_by d) k).edge → b ≡ (pick_with (held_by d) k).matched → m ≡ moves_of (value_at vs) e → x ≡ seen_as f32 quotients b (read_of m) → x ≡ at k
+  seen_at k e b m x ee eb em ex = looked_at (value_at vs) (pick_with (held_by d) k) b m x eb (em ∙ ap (moves_of (value_at vs)) ee) ex
 
   module _ (q : Cube) (s : ℤ) (ev : vs ≡ corners q) (ed : d ≡ diagonals_of q s) where
     same_look : (n : ℕ) → at n ≡ look_at f32 quotients (corner_of q) (pick_by f32 (corner_of q) s n)

@@ -14,19 +14,15 @@ use lib.Ieee.Fits.{and_l, and_r}
 use mir.Syntax.{w8}
 use mir.Val.{SFits, to_z, of_z}
 use mir.ValLaws.{to_z-of_z, to_z_pos}
-use Rattle.std.specs.Prelude.{Option}
-use Rattle.std.specs.Option.{is_some}
-use Rattle.std.specs.Bool.{then_some}
 use Rattle.binary32.specs.Numbers.{Numbers}
 use Rattle.cube.specs.declared.Cube.{Cube}
-use Rattle.cube.specs.declared.EdgeNo.{EdgeNo}
 use Rattle.cube.specs.Bits.{bit_of, number_of}
 use Rattle.cube.specs.Corners.{corners, value_at, corner_of}
 use Rattle.cube.proofs.Table.{all_under, under}
 use Rattle.edge.specs.Edge.{is_edge}
 use Rattle.interior.specs.declared.Diagonals.{Diagonals}
 use Rattle.interior.specs.Pick.{Diagonal, diagonals, last_match, any_match, IsAmbiguousFace, Picked, pick_with, any_pair, pick_by}
-use Rattle.interior.specs.Diagonals.{diagonals_by, diagonals_of, held_by, set_of, edges_of, edge_read}
+use Rattle.interior.specs.Diagonals.{diagonals_by, diagonals_of, held_by, set_of, edges_of}
 
 -- ---- the four pairs: s comes as a float made of the bits of an i8
 abbrev matched : ℤ → Float → Float → Bool
@@ -60,7 +56,7 @@ module _ (n : ℕ) where
     unfolding edges_of
     even_edges e = rw (le-ltb 4 n l, ne_eqb (n % 2) 1 e)
 
--- the digit at a set that is not 0 is the edge of the last pair that matches, and the set is 0 where none does: one test over all sets and faces
+-- the digit at a set is the edge of the last pair that matches, and the set is not 0 where any does: one test over all sets and faces
 module _ (d : Diagonals) (n : ℕ) where
   abbrev digit : ℕ
   digit = edges_of n / 2 ^ (4 * set_of d) % 16
@@ -68,18 +64,11 @@ module _ (d : Diagonals) (n : ℕ) where
   abbrev picked : Picked
   picked = pick_with (held_by d) n
 
-  -- whether any pair matches, and the edge that is read: 0 where none does
-  abbrev any : Bool
-  any = not (eqb (set_of d) 0)
-
-  abbrev read : ℕ
-  read = cond any digit 0
-
   abbrev same_edge : Bool
-  same_edge = eqb read picked.edge
+  same_edge = eqb digit picked.edge
 
   abbrev same_match : Bool
-  same_match = beq any picked.matched
+  same_match = beq (not (eqb (set_of d) 0)) picked.matched
 
   abbrev is_right : Bool
   is_right = same_edge && same_match
@@ -115,11 +104,11 @@ same_answer false true h = absurd h
 same_answer false false h = refl
 
 module _ (d : Diagonals) (n : ℕ) (h : IsAmbiguousFace n) where
-  last_read : read d n ≡ (picked d n).edge
-  last_read = eqb→eq (read d n) (picked d n).edge (and_l (same_edge d n) (same_match d n) (right_for d n h))
+  last_digit : digit d n ≡ (picked d n).edge
+  last_digit = eqb→eq (digit d n) (picked d n).edge (and_l (same_edge d n) (same_match d n) (right_for d n h))
 
-  any_in_set : any d n ≡ (picked d n).matched
-  any_in_set = same_answer (any d n) (picked d n).matched (and_r (same_edge d n) (same_match d n) (right_for d n h))
+  any_in_set : not (eqb (set_of d) 0) ≡ (picked d n).matched
+  any_in_set = same_answer (not (eqb (set_of d) 0)) (picked d n).matched (and_r (same_edge d n) (same_match d n) (right_for d n h))
 
 -- ---- whatever matches, an edge is picked: one of the pairs' or edge 0
 abbrev all_edges : List Diagonal → Bool
@@ -147,29 +136,19 @@ unfolding pick_with
 an_edge matches n h = last_below matches 0 (get_or diagonals n []) (omega arith) (under 7 (λ n. all_edges (get_or diagonals n [])) all_edges_lem n (omega (arith, h)))
 
 -- ---- the pick
-read_if : (b : Bool) (k : ℕ) → edge_read (then_some b (record { 0 = pos k })) ≡ pos (cond b k 0)
-read_if true k = refl
-read_if false k = refl
-
-some_if : (b : Bool) (edge : EdgeNo) → is_some (then_some b edge) ≡ b
-some_if true edge = refl
-some_if false edge = refl
-
-module _ (d : Diagonals) (n : ℕ) (h : IsAmbiguousFace n) where
-  pub edge_picked : (es set : ℕ) (pick : Option EdgeNo) → es ≡ edges_of n → (set ≤ 15) × (set ≡ set_of d)
-      → pick ≡ then_some (not (eqb set 0)) (record { 0 = to_z w8 (es / 2 ^ (4 * set) % 16) })
-      → (edge_read pick ≡ pos (picked d n).edge) × (T (is_edge (edge_read pick)) × (is_some pick ≡ (picked d n).matched))
-  edge_picked es set pick ee (l, se) ep =
-      (e, (subst (λ (z : ℤ). T (is_edge z)) (sym e) (lt→ltb (picked d n).edge 12 (an_edge (held_by d) n h.1)), m))
+module _ (d : Diagonals) where
+  pub edge_picked : (n : ℕ) → IsAmbiguousFace n → (es set : ℕ) → es ≡ edges_of n → (set ≤ 15) × (set ≡ set_of d)
+      → (to_z w8 (es / 2 ^ (4 * set) % 16) ≡ pos (pick_with (held_by d) n).edge) × T (is_edge (to_z w8 (es / 2 ^ (4 * set) % 16)))
+  edge_picked n h es set ee (l, se) = (e, subst (λ (z : ℤ). T (is_edge z)) (sym e) (lt→ltb (pick_with (held_by d) n).edge 12 (an_edge (held_by d) n h.1)))
     where
       small : digit d n < 128
       small = omega arith
 
-      e : edge_read pick ≡ pos (picked d n).edge
-      e = rw (ep, ee, se, to_z_pos w8 (digit d n) small, read_if (any d n) (digit d n)) (ap pos (last_read d n h))
+      e : to_z w8 (es / 2 ^ (4 * set) % 16) ≡ pos (pick_with (held_by d) n).edge
+      e = rw (ee, se, ← last_digit d n h, to_z_pos w8 (digit d n) small)
 
-      m : is_some pick ≡ (picked d n).matched
-      m = rw (ep, se, some_if) (any_in_set d n h)
+  pub matched_for : (set : ℕ) → (set ≤ 15) × (set ≡ set_of d) → (n : ℕ) → IsAmbiguousFace n → not (eqb set 0) ≡ (pick_with (held_by d) n).matched
+  matched_for set (l, se) n h = rw se (any_in_set d n h)
 
 -- ---- the pairs as the code holds them give document 01's picks, over any kind of number
 module _ (K : Numbers) (corner : ℕ → K.N) (s : ℤ) where

@@ -1,8 +1,7 @@
 -- How the code of the diagonal pick keeps the four pairs, each by its first corner. Definitions only.
-use Rattle.std.specs.Prelude.{ℕ, ◌%◌, Bool, false, cond, [], ◌∷◌, ltb, eqb, ℤ, pos, get_or, Option, None, Some}
+use Rattle.std.specs.Prelude.{ℕ, ◌%◌, Bool, false, cond, [], ◌∷◌, ltb, eqb, ℤ, get_or}
 use Rattle.binary32.specs.Numbers.{Numbers, f32}
 use Rattle.cube.specs.declared.Cube.{Cube}
-use Rattle.cube.specs.declared.EdgeNo.{EdgeNo}
 use Rattle.cube.specs.Bits.{number_of}
 use Rattle.cube.specs.Corners.{corner_of}
 use Rattle.interior.specs.declared.Diagonals.{Diagonals}
@@ -30,8 +29,3 @@ set_of d = number_of (d.from0 ∷ d.from1 ∷ d.from2 ∷ d.from3 ∷ [])
 -- the edges that a face's pairs lead to, a hex digit for each set: faces 5 and 6, then 1 and 3, then 2 and 4
 unfoldable pub edges_of : ℕ → ℕ
 edges_of n = cond (ltb 4 n) 0xbbbbbbbbaaaa9980 (cond (eqb (n % 2) 1) 0x7777666677775450 0x3232323231313030)
-
--- the edge that is read for a pick: edge 0 where no pair matches
-abbrev pub edge_read : Option EdgeNo → ℤ
-edge_read None = pos 0
-edge_read (Some edge) = edge.0

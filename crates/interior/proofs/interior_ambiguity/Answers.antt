@@ -1,8 +1,8 @@
--- `interior::interior_ambiguity` picks as `pick_with` does.
+-- `interior::interior_ambiguity` picks the edge that `pick_with` does.
 use Rattle.interior.proofs.Picks.{edge_picked}
 use Rattle.interior.proofs.interior_ambiguity.Goals as goal
 
 pub returns : goal.returns
 returns c =
-    let (pick, (edge, matched)) = edge_picked _ _ c.args.face.ambiguous _ _ _ c.edges.ensures c.set_of-set.ensures c.then_some.ensures in
-    record { pick = pick; edge = edge; matched = matched }
+    let (pick, edge) = edge_picked _ _ c.args.face.ambiguous _ _ c.edges.ensures c.set_of.ensures in
+    record { pick = pick; edge = edge }
