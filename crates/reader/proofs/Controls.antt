@@ -4,9 +4,10 @@ use mathlib.Core.Path.{◌≡◌, refl}
 use mathlib.Core.List.{List, [], ◌∷◌, ◌++◌, map}
 use Prim.Native.Nat.{ℕ}
 use lib.Ieee.{binary32, of_bits}
+use Rattle.std.specs.Prelude.{Ok, Err}
 use Rattle.cube.specs.declared.Cube.{Cube}
 use Rattle.cube.specs.Corners as Corners
-use Rattle.reader.specs.declared.Step.TheVariants as step
+use Rattle.reader.specs.declared.Past.TheVariants as past
 use Rattle.reader.specs.Reader.{Standing, cube, part, end, standing, cube_at, step_at}
 
 abbrev first : Cube
@@ -39,5 +40,5 @@ unfolding step_at cube_at of_bits
 no_corners = refl
 
 -- the code's answers by their names
-named : map standing (step.Cube first ∷ step.Part ∷ step.End ∷ []) ≡ cube first ∷ part ∷ end ∷ []
+named : map standing (Ok first ∷ Err past.Part ∷ Err past.End ∷ []) ≡ cube first ∷ part ∷ end ∷ []
 named = refl

@@ -1,9 +1,9 @@
 -- Document 01, 'Places and their forms': the cubes of a list of corners, eight after eight. Definitions only.
-use Rattle.std.specs.Prelude.{ℕ, ◌+◌, ◌*◌, ◌/◌, ◌%◌, cond, List, length, get_or, ltb, eqb, Float}
+use Rattle.std.specs.Prelude.{ℕ, ◌+◌, ◌*◌, ◌/◌, ◌%◌, cond, List, length, get_or, ltb, eqb, Float, Result, Ok, Err}
 use Rattle.std.specs.Float.{nan}
 use Rattle.cube.specs.declared.Cube.{Cube}
-use Rattle.reader.specs.declared.Step.{Step}
-use Rattle.reader.specs.declared.Step.TheVariants as step
+use Rattle.reader.specs.declared.Past.{Past}
+use Rattle.reader.specs.declared.Past.TheVariants as past
 
 -- the cube at place i, counted in cubes
 unfoldable pub cube_at : List Float → ℕ → Cube
@@ -25,10 +25,10 @@ pub data Standing : Type 0 where
   end : Standing
 
 -- the code's answers by these
-abbrev pub standing : Step → Standing
-standing (step.Cube q) = cube q
-standing step.Part = part
-standing step.End = end
+abbrev pub standing : Result Cube Past → Standing
+standing (Ok q) = cube q
+standing (Err past.Part) = part
+standing (Err past.End) = end
 
 -- past the last whole cube a list whose length is no multiple of 8 has a part of a cube at every place
 unfoldable pub step_at : List Float → ℕ → Standing

@@ -15,23 +15,23 @@ pub struct Reader<'a> {
     pub at: usize,
 }
 
-// What stands at a place. Past the last whole cube: `End`, or `Part` where the list's length is no
-// multiple of 8.
-#[derive(Clone, Copy)]
-pub enum Step {
-    Cube(Cube),
+// Why no cube stands at a place: past the last whole cube is the list's end, or a part of a cube where the
+// list's length is no multiple of 8.
+#[derive(Clone, Copy, PartialEq, Eq)]
+pub enum Past {
     Part,
     End,
 }
 
 // What stands at a place of a list: `here` hands its list and place to this.
-fn step_at(corners: &[f32], at: usize) -> Step
+#[tactic(auto, unfolding(crate::specs::Reader::step_at, crate::specs::Reader::cube_at))]
+fn step_at(corners: &[f32], at: usize) -> Result<Cube, Past>
     ensures { standing result ≡ step_at corners.now at }
 {
     let n = corners.len() / 8;
     if at < n {
         let k = 8 * at;
-        return Step::Cube(Cube {
+        return Ok(Cube {
             c0: corners[k],
             c1: corners[k + 1],
             c2: corners[k + 2],
@@ -43,9 +43,9 @@ fn step_at(corners: &[f32], at: usize) -> Step
         });
     }
     if corners.len() % 8 == 0 {
-        return Step::End;
+        return Err(Past::End);
     }
-    Step::Part
+    Err(Past::Part)
 }
 
 pub fn new<'a>(corners: &'a [f32]) -> Reader<'a>
@@ -54,7 +54,7 @@ pub fn new<'a>(corners: &'a [f32]) -> Reader<'a>
     Reader { corners, at: 0 }
 }
 
-pub fn here<'a>(r: Reader<'a>) -> Step
+pub fn here<'a>(r: Reader<'a>) -> Result<Cube, Past>
     ensures { standing result ≡ step_at r.entry.corners.now r.entry.at }
 {
     step_at(r.corners, r.at)
@@ -70,7 +70,7 @@ pub fn moved<'a>(r: Reader<'a>, at: usize) -> Reader<'a>
 }
 
 // The way in for a caller with a plain list and a place.
-pub fn read_at(corners: &[f32], at: usize) -> Step
+pub fn read_at(corners: &[f32], at: usize) -> Result<Cube, Past>
     ensures stands { standing result ≡ step_at corners.now at }
 {
     here(moved(new(corners), at))
