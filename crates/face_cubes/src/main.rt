@@ -3,106 +3,86 @@
 #![tactic(auto)]
 
 use cube::{Cube, Face, Refusal};
-use face::FaceAnswer;
-use meeting::Compared;
+use std::{fmt, io};
 
-fn print_answer(yes: bool) {
-    if yes {
-        io::write_all(1, b"yes\n");
-    } else {
-        io::write_all(1, b"no\n");
+// What a line says: an answer, that two faces do not meet, or a refusal.
+#[derive(Clone, Copy)]
+struct Said(Result<Option<bool>, Refusal>);
+
+impl fmt::Display for Said {
+    fn fmt<W: fmt::Write>(&self, f: &mut fmt::Formatter<W>) -> fmt::Result {
+        match self.0 {
+            Ok(Some(true)) => write!(f, "yes"),
+            Ok(Some(false)) => write!(f, "no"),
+            Ok(None) => write!(f, "apart"),
+            Err(why) => write!(f, "refused {}", cube::number(why)),
+        }
     }
 }
 
-fn print_refusal(why: Refusal) {
-    io::write_all(1, b"refused ");
-    io::print_decimal(1, cube::number(why) as u64);
-    io::write_all(1, b"\n");
-}
-
-// A cube with these corners below and -1 above.
-fn low(c0: f32, c1: f32, c2: f32, c3: f32) -> Cube {
+// The cube with these values at corners 0 to 3 and 4 to 7.
+fn of_layers([c0, c1, c2, c3]: [f32; 4], [c4, c5, c6, c7]: [f32; 4]) -> Cube {
     Cube {
-        c0: c0,
-        c1: c1,
-        c2: c2,
-        c3: c3,
-        c4: -1.0,
-        c5: -1.0,
-        c6: -1.0,
-        c7: -1.0,
+        c0,
+        c1,
+        c2,
+        c3,
+        c4,
+        c5,
+        c6,
+        c7,
     }
+}
+
+// A cube with these values at corners 0 to 3 and -1 above.
+fn low(values: [f32; 4]) -> Cube {
+    of_layers(values, [-1.0; 4])
 }
 
 // The cube below that one: the same values above, and 1 below.
-fn below(c0: f32, c1: f32, c2: f32, c3: f32) -> Cube {
-    Cube {
-        c0: 1.0,
-        c1: 1.0,
-        c2: 1.0,
-        c3: 1.0,
-        c4: c0,
-        c5: c1,
-        c6: c2,
-        c7: c3,
-    }
-}
-
-fn test(q: Cube, n: i8) {
-    match face::test_face(q, Face(n)) {
-        FaceAnswer::Answer(yes) => print_answer(yes),
-        FaceAnswer::Refused(why) => print_refusal(why),
-    }
-}
-
-fn compare(k: Cube, n: i8, l: Cube, p: i8) {
-    match meeting::compare_faces(k, Face(n), l, Face(p)) {
-        Compared::Equal(yes) => print_answer(yes),
-        Compared::Apart => {
-            io::write_all(1, b"apart\n");
-        }
-        Compared::Refused(why) => print_refusal(why),
-    }
+fn below(values: [f32; 4]) -> Cube {
+    of_layers([1.0; 4], values)
 }
 
 // Document 01's cubes of case 3, configuration 0, whose face number is 5, and of configuration 12,
 // whose face number is -6; then the refusals.
-fn tests() {
-    io::write_all(1, b"face answers\n");
-    test(low(2.0, -1.0, 2.0, -1.0), 5);
-    test(low(1.0, -2.0, 1.0, -2.0), 5);
-    test(low(1.0, -1.0, 1.0, -1.0), 5);
-    test(low(1.0, -1.00000011920929, 1.0, -1.0), 5);
-    test(low(1.0, -1.0, 0.999999940395355, -1.0), 5);
-    test(below(1.0, -1.0, 1.0, -1.0), -6);
-    test(low(1.0, -1.0, 1.0, -1.0), 0);
-    test(low(1.0, -1.0, 1.0, -1.0), -7);
-    test(low(1.0, 1.0 / 0.0, 1.0, -1.0), 6);
+fn tests(rt: &impl Print) -> io::Result<()> {
+    println!(rt; "face answers")?;
+    for (q, n) in [
+        (low([2.0, -1.0, 2.0, -1.0]), 5),
+        (low([1.0, -2.0, 1.0, -2.0]), 5),
+        (low([1.0, -1.0, 1.0, -1.0]), 5),
+        (low([1.0, -1.00000011920929, 1.0, -1.0]), 5),
+        (low([1.0, -1.0, 0.999999940395355, -1.0]), 5),
+        (below([1.0, -1.0, 1.0, -1.0]), -6),
+        (low([1.0, -1.0, 1.0, -1.0]), 0),
+        (low([1.0, -1.0, 1.0, -1.0]), -7),
+        (low([1.0, 1.0 / 0.0, 1.0, -1.0]), 6),
+    ] {
+        println!(rt; "{}", Said(face::test_face(q, Face(n)).map(Some)))?;
+    }
+    Ok(())
 }
 
-// Whether two cubes answer alike: with the same sign, with other signs, at a tie, out of range, and at
-// faces that do not meet.
-fn comparisons() {
-    io::write_all(1, b"equal answers\n");
-    compare(low(2.0, -1.0, 2.0, -1.0), 5, below(2.0, -1.0, 2.0, -1.0), 6);
-    compare(
-        low(2.0, -1.0, 2.0, -1.0),
-        5,
-        below(2.0, -1.0, 2.0, -1.0),
-        -6,
-    );
-    compare(
-        low(1.0, -1.0, 1.0, -1.0),
-        -5,
-        below(1.0, -1.0, 1.0, -1.0),
-        -6,
-    );
-    compare(low(0.0, -1.0, 2.0, -1.0), 5, below(0.0, -1.0, 2.0, -1.0), 6);
-    compare(low(2.0, -1.0, 2.0, -1.0), 5, below(2.0, -1.0, 2.0, -1.0), 3);
-    compare(low(2.0, -1.0, 2.0, -1.0), 5, below(2.0, -1.0, 2.0, -1.0), 7);
+// Whether two cubes, one below the other, answer alike: with the same sign, with other signs, at a tie, out of
+// range, and at faces that do not meet.
+fn comparisons(rt: &impl Print) -> io::Result<()> {
+    println!(rt; "equal answers")?;
+    for (values, n, p) in [
+        ([2.0, -1.0, 2.0, -1.0], 5, 6),
+        ([2.0, -1.0, 2.0, -1.0], 5, -6),
+        ([1.0, -1.0, 1.0, -1.0], -5, -6),
+        ([0.0, -1.0, 2.0, -1.0], 5, 6),
+        ([2.0, -1.0, 2.0, -1.0], 5, 3),
+        ([2.0, -1.0, 2.0, -1.0], 5, 7),
+    ] {
+        let said = meeting::compare_faces(low(values), Face(n), below(values), Face(p));
+        println!(rt; "{}", Said(said))?;
+    }
+    Ok(())
 }
 
-fn main() {
-    tests();
-    comparisons();
+fn main(rt: HostRuntime) -> io::Result<()> {
+    tests(&rt)?;
+    comparisons(&rt)
 }
