@@ -2,7 +2,7 @@
 use mathlib.Core.Path.{◌≡◌, refl, sym, ap, ◌∙◌}
 use mathlib.Core.Bool.{Bool, true, false}
 use mathlib.Core.List.{List, [], ◌∷◌, ◌++◌}
-use Prim.Native.Nat.{ℕ, zero, suc, ◌+◌, ◌-◌, ◌≤◌, ◌<◌}
+use Prim.Native.Nat.{ℕ, zero, suc, ◌+◌, ◌-◌, ◌<◌}
 use native.Mathlib.Nat.{zero-add, le_of_suc-le-suc, not-suc-le-zero}
 use native.Mathlib.Omega.{arith}
 use native.Mathlib.Numerals.{add-one}
@@ -11,8 +11,14 @@ use lib.ListN.{length, take, drop, length-take, length-drop, drop_of_length-le}
 use lib.Seq.{take_all, take-take, take-nil}
 use borrow.Author.Tests.{eqb-true}
 use Rattle.scan.specs.Bytes.{index_of, index_after, slice}
-use Rattle.line.specs.Number.{Value, is, broken, signed_of}
-use Rattle.line.specs.Line.{Parsed, malformed, line_from, parse_line}
+use lib.IntN.{ℤ}
+use Rattle.std.proofs.Common.{Option, Some, None}
+use Rattle.line.specs.Number.{signed_of}
+use Rattle.cube.specs.declared.Cube.{Cube}
+use mir.Syntax.{w8}
+use mir.Val.{SFits, to_z, of_z}
+use mir.ValLaws.{to_z-of_z}
+use Rattle.line.specs.Line.{Parsed, given, malformed, have_corners, cube_in, line_from, parse_line}
 use Rattle.line.proofs.Decimals.{nothing}
 
 pub drop_take : (m n : ℕ) (l : List ℕ) → drop m (take n l) ≡ take (n - m) (drop m l)
@@ -36,12 +42,12 @@ module _ (b : ℕ) where
   cut_at [] h = absurd (not-suc-le-zero h)
   cut_at (x ∷ xs) h = cut_after (eqb x b) x (index_of b xs) xs refl h (cut_at xs)
 
-no_second : (case : Value) (tail : List ℕ) → line_from case broken tail ≡ malformed
+no_second : (case : Option ℤ) (tail : List ℕ) → line_from case None tail ≡ malformed
 unfolding line_from
-no_second (is x) tail = refl
-no_second broken tail = refl
+no_second (Some x) tail = refl
+no_second None tail = refl
 
-no_first : (configuration : Value) (tail : List ℕ) → line_from broken configuration tail ≡ malformed
+no_first : (configuration : Option ℤ) (tail : List ℕ) → line_from None configuration tail ≡ malformed
 unfolding line_from
 no_first configuration tail = refl
 
@@ -54,36 +60,61 @@ module _ (line : List ℕ) where
   unfolding parse_line
   is_cut = refl
 
-  pub first_broken : (n k : ℕ) → signed_of (take k (take n line)) ≡ broken → cut n k ≡ malformed
+  pub first_broken : (n k : ℕ) → signed_of (take k (take n line)) ≡ None → cut n k ≡ malformed
   first_broken n k e = rw e (no_first (signed_of (drop (suc k) (take n line))) (drop n line))
 
-  pub second_broken : (n k : ℕ) → signed_of (drop (suc k) (take n line)) ≡ broken → cut n k ≡ malformed
+  pub second_broken : (n k : ℕ) → signed_of (drop (suc k) (take n line)) ≡ None → cut n k ≡ malformed
   second_broken n k e = rw e (no_second (signed_of (take k (take n line))) (drop n line))
 
   pub without_head : length line < 72 → malformed ≡ parse_line line
   without_head h =
       let e : length line - 72 ≡ 0 = omega arith in
-      let empty : signed_of (take (index_of 32 []) []) ≡ broken = ap signed_of (take-nil (index_of 32 [])) ∙ sym (nothing [] refl) in
+      let empty : signed_of (take (index_of 32 []) []) ≡ None = ap signed_of (take-nil (index_of 32 [])) ∙ sym (nothing [] refl) in
       sym (is_cut ∙ ap (λ n. cut n (index_of 32 (take n line))) e ∙ first_broken 0 (index_of 32 []) empty)
 
-  module _ (k : ℕ) (found : k ≡ 0 + index_of 32 (slice 0 (length line - 72) line)) where
-    at_space : parse_line line ≡ cut (length line - 72) k
+  -- cut as the code cuts it: n bytes before the corners, and the first space at k
+  module _ (n : ℕ) (is_n : n ≡ length line - 72) where
+    pub without_space : index_of 32 (slice 0 n line) ≡ n - 0 → malformed ≡ parse_line line
     unfolding slice
-    at_space = is_cut ∙ ap (cut (length line - 72)) (sym (found ∙ zero-add (index_of 32 (take (length line - 72) line))))
-
-    pub without_space : k ≡ length line - 72 → malformed ≡ parse_line line
     without_space e =
-        let n = length line - 72 in
+        let k = index_of 32 (take n line) in
         let none : drop (suc k) (take n line) ≡ [] = drop_of_length-le (take n line) {i = suc k} (omega (arith, length-take n line)) in
-        sym (at_space ∙ second_broken n k (ap signed_of none ∙ sym (nothing [] refl)))
+        let here : parse_line line ≡ cut n k = is_cut ∙ ap (λ m. cut m (index_of 32 (take m line))) (sym is_n) in
+        sym (here ∙ second_broken n k (ap signed_of none ∙ sym (nothing [] refl)))
 
-    pub by_parts : {r : Parsed} {case configuration : Value} {tail : List ℕ} → k ≤ length line - 72
-        → case ≡ signed_of (take (k - 0) (drop 0 line)) → configuration ≡ signed_of (take (length line - 72 - (k + 1)) (drop (k + 1) line))
-        → tail ≡ take (length line - (length line - 72)) (drop (length line - 72) line) → r ≡ line_from case configuration tail → r ≡ parse_line line
-    by_parts {r} {case} {configuration} {tail} h d e t f =
-        let n = length line - 72 in
-        let a : take k (take n line) ≡ take k line = take-take k n line h in
-        let b : drop (suc k) (take n line) ≡ take (n - (k + 1)) (drop (k + 1) line) = rw (← add-one k) (drop_take (k + 1) n line) in
-        let g : take (length line - n) (drop n line) ≡ drop n line = take_all (length line - n) (drop n line) (omega (arith, length-drop n line)) in
-        let z : k - 0 ≡ k = omega arith in
-        rw at_space (rw (a, b) (f ∙ rw (d, e, t, g, z)))
+    module _ (k : ℕ) (found : k ≡ 0 + index_of 32 (slice 0 n line)) (inside : k < n) where
+      at_space : parse_line line ≡ cut n k
+      unfolding slice
+      at_space =
+          is_cut ∙ ap (λ m. cut m (index_of 32 (take m line))) (sym is_n)
+          ∙ ap (cut n) (sym (found ∙ zero-add (index_of 32 (take n line))))
+
+      pub by_parts : {case configuration : Option ℤ} {tail : List ℕ}
+          → case ≡ signed_of (take k line) → configuration ≡ signed_of (take (n - (k + 1)) (drop (k + 1) line))
+          → tail ≡ take (length line - n) (drop n line) → line_from case configuration tail ≡ parse_line line
+      by_parts {case} {configuration} {tail} d e t =
+          let a : take k (take n line) ≡ take k line = take-take k n line (omega arith) in
+          let b : drop (suc k) (take n line) ≡ take (n - (k + 1)) (drop (k + 1) line) = rw (← add-one k) (drop_take (k + 1) n line) in
+          let g : take (length line - n) (drop n line) ≡ drop n line = take_all (length line - n) (drop n line) (omega (arith, length-drop n line)) in
+          rw at_space (rw (a, b) (rw (d, e, t, g)))
+
+      pub no_case : None ≡ signed_of (take k line) → malformed ≡ parse_line line
+      no_case d = sym (no_first _ _) ∙ by_parts d refl refl
+
+      pub no_configuration : None ≡ signed_of (take (n - (k + 1)) (drop (k + 1) line)) → malformed ≡ parse_line line
+      no_configuration e = sym (no_second _ _) ∙ by_parts refl e refl
+
+      module _ (x y : ℤ) (d : Some x ≡ signed_of (take k line)) (e : Some y ≡ signed_of (take (n - (k + 1)) (drop (k + 1) line))) where
+        abbrev pub tail : List ℕ
+        tail = take (length line - n) (drop n line)
+
+        pub no_corners : have_corners tail ≡ false → malformed ≡ parse_line line
+        unfolding line_from
+        no_corners h = let f : line_from (Some x) (Some y) tail ≡ malformed = rw h in sym f ∙ by_parts d e refl
+
+        pub all_parts : {q : Cube} → SFits w8 x → SFits w8 y → (have_corners tail ≡ true) × (q ≡ cube_in tail)
+            → given (to_z w8 (of_z w8 x)) (to_z w8 (of_z w8 y)) q ≡ parse_line line
+        unfolding line_from
+        all_parts f g (h, i) =
+            let j : line_from (Some x) (Some y) tail ≡ given x y (cube_in tail) = rw h in
+            rw (to_z-of_z w8 x f, to_z-of_z w8 y g, i) (sym j ∙ by_parts d e refl)

@@ -1,6 +1,6 @@
-mod Digits
-mod Decimals
-mod Corners
+pub mod Digits
+pub mod Decimals
+pub mod Corners
 pub mod Cuts
 mod WrittenDecimals
 mod WrittenWords

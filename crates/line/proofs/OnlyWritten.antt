@@ -11,7 +11,8 @@ use lib.ListN.{length, take, drop, length-drop, take-append-drop, drop_of_length
 use lib.Seq.{take_all, drop-drop}
 use Rattle.scan.specs.Bytes.{index_of}
 use Rattle.cube.specs.declared.Cube.{Cube}
-use Rattle.line.specs.Number.{Value, is, broken, signed_of}
+use Rattle.std.proofs.Common.{Option, Some, None}
+use Rattle.line.specs.Number.{signed_of}
 use Rattle.line.specs.Line.{Parsed, given, refused, malformed, corner_bits, have_corners, cube_in, line_from, parse_line}
 use Rattle.line.specs.Written.{corner, line_of, IsWritten, OnlyWritten}
 use Rattle.line.proofs.Decimals.{nothing}
@@ -68,15 +69,15 @@ module _ (line : List ℕ) (long : 72 ≤ length line) where
     at_the_space =
         sym (take-append-drop n line) ∙ ap (λ (l : List ℕ). l ++ drop n line) (cut_at 32 head space)
 
-    of_parts : (x y : Value) → IsText (take k head) x → IsText (drop (suc k) head) y → (t : Bool) → have_corners (drop n line) ≡ t
+    of_parts : (x y : Option ℤ) → IsText (take k head) x → IsText (drop (suc k) head) y → (t : Bool) → have_corners (drop n line) ≡ t
         → IsLine line (line_from x y (drop n line))
     unfolding line_from line_of cube_in
-    of_parts (is x) (is y) f g true e =
+    of_parts (Some x) (Some y) f g true e =
         let tail = corners_text (drop n line) (omega (arith, length-drop n line)) e in
         rw e (f.0, (g.0, (at_the_space ∙ (λ i. f.1 i ++ (32 ∷ g.1 i) ++ tail i), refl)))
-    of_parts (is x) (is y) f g false e = rw e refl
-    of_parts (is x) broken f g t e = refl
-    of_parts broken y f g t e = refl
+    of_parts (Some x) (Some y) f g false e = rw e refl
+    of_parts (Some x) None f g t e = refl
+    of_parts None y f g t e = refl
 
   of_head : IsLine line (parse_line line)
   of_head =

@@ -5,15 +5,16 @@ use mathlib.Core.List.{List, [], ◌∷◌, ◌++◌}
 use Prim.Native.Nat.{ℕ, suc, ◌+◌, ◌-◌, ◌*◌, ◌/◌, ◌%◌, ◌<◌}
 use native.Mathlib.Omega.{arith}
 use lib.Dec.{T, eqb, ltb, leb, lt→ltb}
-use lib.IntN.{pos, negsuc}
+use lib.IntN.{ℤ, pos, negsuc}
 use borrow.Author.Tests.{ltb-true, leb-true, eqb-true}
 use Rattle.hex_digits.proofs.Digits.{first, second, from_to, not_before}
 use Rattle.put.specs.Decimal.{decimal}
 use Rattle.put.proofs.Digits.{decimal_one, decimal_more}
-use Rattle.line.specs.Number.{Value, is, broken, decimal_digit, one_digit, two_digits, three_digits, whole_of, signed_of}
+use Rattle.std.proofs.Common.{Option, Some, None}
+use Rattle.line.specs.Number.{decimal_digit, one_digit, two_digits, three_digits, whole_of, signed_of}
 use Rattle.line.specs.Written.{in_byte, signed_text}
-use Rattle.line.proofs.Digits.{passed, a_digit, one_taken, are_two, two_taken, two_bounds, are_three, three_taken, three_bounds}
-use Rattle.line.proofs.Decimals.{whole_of_other, nothing}
+use Rattle.line.proofs.Digits.{passed, a_digit, one_taken, are_two, two_taken, two_bounds, are_three, three_taken, three_bounds, of_more}
+use Rattle.line.proofs.Decimals.{nothing}
 
 digit_byte : (b : ℕ) → decimal_digit b < 10 → b ≡ 48 + decimal_digit b
 unfolding decimal_digit
@@ -68,14 +69,14 @@ whole_text (a ∷ []) h = one_text a h
 whole_text (a ∷ b ∷ []) h = two_text a b h
 whole_text (a ∷ b ∷ c ∷ []) h = three_text a b c h
 whole_text (a ∷ b ∷ c ∷ d ∷ text) h =
-    absurd (omega (arith, whole_of_other (a ∷ b ∷ c ∷ d ∷ text) (λ e. omega arith) (λ e. omega arith) (λ e. omega arith)))
+    absurd (omega (arith, of_more (a ∷ b ∷ c ∷ d ∷ text) (omega arith)))
 
 -- ---- with its sign: what a text is, by the number that it is read as
-abbrev pub IsText : List ℕ → Value → Type 0
-IsText text (is z) = T (in_byte z) × (text ≡ signed_text z)
-IsText text broken = Unit {0}
+abbrev pub IsText : List ℕ → Option ℤ → Type 0
+IsText text (Some z) = T (in_byte z) × (text ≡ signed_text z)
+IsText text None = Unit {0}
 
-after_minus : (rest : List ℕ) (t : Bool) → from_to 1 128 (whole_of rest) ≡ t → IsText (45 ∷ rest) (cond t (is (negsuc (whole_of rest - 1))) broken)
+after_minus : (rest : List ℕ) (t : Bool) → from_to 1 128 (whole_of rest) ≡ t → IsText (45 ∷ rest) (cond t (Some (negsuc (whole_of rest - 1))) None)
 unfolding signed_text
 after_minus rest true e =
     let n = whole_of rest in
@@ -85,7 +86,7 @@ after_minus rest true e =
     (lt→ltb (n - 1) 128 (omega arith), ap (λ (text : List ℕ). 45 ∷ text) (whole_text rest (omega arith) ∙ ap decimal s))
 after_minus rest false e = tt
 
-no_minus : (text : List ℕ) (t : Bool) → leb (whole_of text) 127 ≡ t → IsText text (cond t (is (pos (whole_of text))) broken)
+no_minus : (text : List ℕ) (t : Bool) → leb (whole_of text) 127 ≡ t → IsText text (cond t (Some (pos (whole_of text))) None)
 unfolding signed_text
 no_minus text true e =
     let l = leb-true (whole_of text) 127 e in
@@ -95,11 +96,11 @@ no_minus text false e = tt
 by_sign : (b : ℕ) (rest : List ℕ) (t : Bool) → eqb b 45 ≡ t
     → IsText (b ∷ rest) (
     cond t
-    (cond (from_to 1 128 (whole_of rest)) (is (negsuc (whole_of rest - 1))) broken)
-    (cond (leb (whole_of (b ∷ rest)) 127) (is (pos (whole_of (b ∷ rest)))) broken)
+    (cond (from_to 1 128 (whole_of rest)) (Some (negsuc (whole_of rest - 1))) None)
+    (cond (leb (whole_of (b ∷ rest)) 127) (Some (pos (whole_of (b ∷ rest)))) None)
     )
 by_sign b rest true e =
-    let r = cond (from_to 1 128 (whole_of rest)) (is (negsuc (whole_of rest - 1))) broken in
+    let r = cond (from_to 1 128 (whole_of rest)) (Some (negsuc (whole_of rest - 1))) None in
     subst (λ x. IsText (x ∷ rest) r) (sym (eqb-true b 45 e)) (after_minus rest (from_to 1 128 (whole_of rest)) refl)
 by_sign b rest false e = no_minus (b ∷ rest) (leb (whole_of (b ∷ rest)) 127) refl
 

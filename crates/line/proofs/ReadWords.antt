@@ -1,5 +1,5 @@
 -- Nine bytes that are read as a number below 2^32 are a space and that number's hex digits. Assumes nothing.
-use mathlib.Core.Path.{◌≡◌, refl, ap, ap₂, ◌∙◌}
+use mathlib.Core.Path.{◌≡◌, refl, sym, ap, ap₂, ◌∙◌}
 use mathlib.Core.Bool.{Bool, true, false, ◌&&◌}
 use mathlib.Core.List.{List, [], ◌∷◌, ◌++◌}
 use Prim.Native.Nat.{ℕ, zero, suc, ◌+◌, ◌-◌, ◌*◌, ◌/◌, ◌%◌, ◌≤◌, ◌<◌}
@@ -99,5 +99,5 @@ module _ (tail : List ℕ) where
   read_corner k l h =
       let t = passed (eqb (get_or tail (9 * k) 0) 32) (word_of tail (9 * k + 1)) 0x100000000 h in
       let s = eqb-true (get_or tail (9 * k) 0) 32 t in
-      let e : word_of tail (9 * k + 1) ≡ corner_bits tail k = after_space tail k s refl in
+      let e : word_of tail (9 * k + 1) ≡ corner_bits tail k = sym (after_space tail k s) in
       part_is 9 (9 * k) l ∙ (λ i. s i ∷ (word_part (9 * k) (omega arith) ∙ ap (hex_text 8) e) i)

@@ -11,7 +11,8 @@ use lib.Seq.{take-append_seam, drop-append_seam, drop-append-add}
 use borrow.Author.Tests.{lt-ltb}
 use Rattle.scan.specs.Bytes.{index_of}
 use Rattle.cube.specs.Corners.{cube}
-use Rattle.line.specs.Number.{is, signed_of}
+use Rattle.std.proofs.Common.{Some}
+use Rattle.line.specs.Number.{signed_of}
 use Rattle.line.specs.Line.{given, corner_bits, have_corners, cube_in, line_from, parse_line}
 use Rattle.line.specs.Written.{in_byte, signed_text, hex_text, corner, line_of, WrittenBack}
 use Rattle.line.proofs.WrittenDecimals.{signed_back, first_space}
@@ -23,7 +24,7 @@ line_from_corners : (case configuration : ℤ) (tail : List ℕ) (a b c d e f g 
     → corner_bits tail 4 ≡ e → corner_bits tail 5 ≡ f → corner_bits tail 6 ≡ g → corner_bits tail 7 ≡ h
     → a < 0x100000000 → b < 0x100000000 → c < 0x100000000 → d < 0x100000000
     → e < 0x100000000 → f < 0x100000000 → g < 0x100000000 → h < 0x100000000
-    → line_from (is case) (is configuration) tail ≡ given case configuration (cube a b c d e f g h)
+    → line_from (Some case) (Some configuration) tail ≡ given case configuration (cube a b c d e f g h)
 unfolding line_from have_corners cube_in
 line_from_corners case configuration tail a b c d e f g h ea eb ec ed ee ef eg eh la lb lc ld le lf lg lh =
     simp (ea, eb, ec, ed, ee, ef, eg, eh, lt-ltb)
@@ -37,7 +38,7 @@ parse_seam head tail h =
     rw (n, take-append_seam head tail, drop-append_seam head tail)
 
 parse_head : (case configuration : ℤ) (tail : List ℕ) → T (in_byte case) → T (in_byte configuration) → length tail ≡ 72
-    → parse_line (signed_text case ++ (32 ∷ signed_text configuration) ++ tail) ≡ line_from (is case) (is configuration) tail
+    → parse_line (signed_text case ++ (32 ∷ signed_text configuration) ++ tail) ≡ line_from (Some case) (Some configuration) tail
 parse_head case configuration tail h k l =
     let xs = signed_text case in
     let ys = signed_text configuration in

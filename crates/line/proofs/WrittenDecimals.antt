@@ -8,25 +8,26 @@ use lib.ListN.{length}
 use Rattle.scan.specs.Bytes.{index_of, index_after}
 use Rattle.cube.proofs.Table.{values_of, agree}
 use Rattle.put.specs.Decimal.{decimal_in, decimal}
-use Rattle.line.specs.Number.{Value, is, decimal_digit, one_digit, two_digits, three_digits, whole_of, signed_of}
+use Rattle.std.proofs.Common.{Option, Some}
+use Rattle.line.specs.Number.{decimal_digit, one_digit, two_digits, three_digits, whole_of, signed_of}
 use Rattle.line.specs.Written.{in_byte, signed_text}
 
 -- ---- its value: computed at every number
-read : ℤ → Value
+read : ℤ → Option ℤ
 read z = signed_of (signed_text z)
 
-not_below : values_of (λ n. read (pos n)) 128 ≡ values_of (λ n. is (pos n)) 128
+not_below : values_of (λ n. read (pos n)) 128 ≡ values_of (λ n. Some (pos n)) 128
 unfolding read signed_of signed_text whole_of one_digit two_digits three_digits decimal_digit decimal decimal_in
 not_below = refl
 
-below : values_of (λ n. read (negsuc n)) 128 ≡ values_of (λ n. is (negsuc n)) 128
+below : values_of (λ n. read (negsuc n)) 128 ≡ values_of (λ n. Some (negsuc n)) 128
 unfolding read signed_of signed_text whole_of one_digit two_digits three_digits decimal_digit decimal decimal_in
 below = refl
 
-pub signed_back : (z : ℤ) → T (in_byte z) → signed_of (signed_text z) ≡ is z
+pub signed_back : (z : ℤ) → T (in_byte z) → signed_of (signed_text z) ≡ Some z
 unfolding read
-signed_back (pos n) h = agree (λ k. read (pos k)) (λ k. is (pos k)) 128 not_below n (ltb→lt n 128 h)
-signed_back (negsuc n) h = agree (λ k. read (negsuc k)) (λ k. is (negsuc k)) 128 below n (ltb→lt n 128 h)
+signed_back (pos n) h = agree (λ k. read (pos k)) (λ k. Some (pos k)) 128 not_below n (ltb→lt n 128 h)
+signed_back (negsuc n) h = agree (λ k. read (negsuc k)) (λ k. Some (negsuc k)) 128 below n (ltb→lt n 128 h)
 
 -- ---- its end, whatever follows the space
 module _ (rest : List ℕ) where

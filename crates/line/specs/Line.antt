@@ -1,14 +1,13 @@
 -- Document 01, 'Program': a line of two decimals and eight corners, single spaces, as it is parsed. The form as document 01 writes it is `line_of` in
 -- Written.antt, and `WrittenBack` and `OnlyWritten` there say that just this is parsed. Definitions only.
-use Rattle.std.specs.Prelude.{ℕ, suc, ◌+◌, ◌-◌, ◌*◌, Bool, true, cond, ◌&&◌, eqb, ltb, ℤ, length, get_or, take, drop}
+use Rattle.std.specs.Prelude.{ℕ, suc, ◌+◌, ◌-◌, ◌*◌, Bool, true, cond, ◌&&◌, eqb, ltb, ℤ, Option, Some, None, length, get_or, take, drop}
 use mathlib.Core.List.{List, [], ◌∷◌, map, foldr}
 use Rattle.scan.specs.Bytes.{index_of}
 use Rattle.cube.specs.declared.Cube.{Cube}
 use Rattle.cube.specs.Corners.{cube}
 use Rattle.hex_digits.specs.Hex.{word_of}
 use Rattle.line.specs.declared.Line.{Line}
-use Rattle.line.specs.declared.Line.TheVariants.{Given, Malformed}
-use Rattle.line.specs.Number.{Value, is, broken, signed_of}
+use Rattle.line.specs.Number.{signed_of}
 
 -- a line: its case, configuration and cube, or the number of its refusal
 pub data Parsed : Type 0 where
@@ -20,9 +19,9 @@ abbrev pub malformed : Parsed
 malformed = refused 8
 
 -- the lines of the code by document 01's values and number
-abbrev pub parsed : Line → Parsed
-parsed (Given case configuration q) = given case configuration q
-parsed Malformed = malformed
+abbrev pub parsed : Option Line → Parsed
+parsed (Some line) = given line.case line.configuration line.cube
+parsed None = malformed
 
 -- corner k of the line's last 72 bytes: a space and eight hex digits; 2^32 where it is not so
 unfoldable pub corner_bits : List ℕ → ℕ → ℕ
@@ -36,10 +35,10 @@ cube_in tail =
     let bits = corner_bits tail in
     cube (bits 0) (bits 1) (bits 2) (bits 3) (bits 4) (bits 5) (bits 6) (bits 7)
 
-unfoldable pub line_from : Value → Value → List ℕ → Parsed
-line_from (is case) (is configuration) tail = cond (have_corners tail) (given case configuration (cube_in tail)) malformed
-line_from (is case) broken tail = malformed
-line_from broken configuration tail = malformed
+unfoldable pub line_from : Option ℤ → Option ℤ → List ℕ → Parsed
+line_from (Some case) (Some configuration) tail = cond (have_corners tail) (given case configuration (cube_in tail)) malformed
+line_from (Some case) None tail = malformed
+line_from None configuration tail = malformed
 
 -- a line without its newline. Its last 72 bytes are the corners; what comes before is cut at its first space
 unfoldable pub parse_line : List ℕ → Parsed

@@ -1,17 +1,5 @@
 -- Document 01, 'Program': a decimal in -128..127, no plus, no needless zero, no -0. Definitions only.
-use Rattle.std.specs.Prelude.{ℕ, ◌+◌, ◌-◌, ◌*◌, cond, ◌&&◌, List, eqb, ltb, leb, ℤ, pos, negsuc, length, get_or, drop}
-use Rattle.line.specs.declared.Number.{Number}
-use Rattle.line.specs.declared.Number.TheVariants.{Is, Broken}
-
--- a text as a number: what it is, or that it is none
-pub data Value : Type 0 where
-  is : ℤ → Value
-  broken : Value
-
--- the numbers of the code as document 01's
-abbrev pub value : Number → Value
-value (Is n) = is n
-value Broken = broken
+use Rattle.std.specs.Prelude.{ℕ, ◌+◌, ◌-◌, ◌*◌, cond, ◌&&◌, List, eqb, ltb, leb, ℤ, pos, negsuc, Option, Some, None, length, get_or, drop}
 
 -- a digit's value, and 10 for any other byte
 unfoldable pub decimal_digit : ℕ → ℕ
@@ -35,11 +23,11 @@ whole_of text =
     (cond (eqb (length text) 2) (two_digits (digit 0) (digit 1))
     (cond (eqb (length text) 3) (three_digits (digit 0) (digit 1) (digit 2)) 1000))
 
--- 45 is '-'
-unfoldable pub signed_of : List ℕ → Value
+-- a text as a number, where it is one; 45 is '-'
+unfoldable pub signed_of : List ℕ → Option ℤ
 signed_of text =
     let n = whole_of (drop 1 text) in
     let m = whole_of text in
     cond (eqb (get_or text 0 0) 45)
-    (cond (leb 1 n && leb n 128) (is (negsuc (n - 1))) broken)
-    (cond (leb m 127) (is (pos m)) broken)
+    (cond (leb 1 n && leb n 128) (Some (negsuc (n - 1))) None)
+    (cond (leb m 127) (Some (pos m)) None)
