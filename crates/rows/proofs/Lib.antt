@@ -1,4 +1,4 @@
-pub mod Cubes
+pub mod Places
 pub mod Rows
 pub mod Parts
 mod Controls

@@ -1,10 +1,9 @@
--- Rows: a choice's row, a row put by its stores, and what the rows promise of document 01's, of empty and of no tiling. Assumes nothing.
+-- Rows: a choice's row, and what the rows promise of document 01's, of empty and of no tiling. Assumes nothing.
 use mathlib.Core.Path.{◌≡◌, refl, sym, ap, ◌∙◌}
 use mathlib.Core.Bool.{Bool}
-use mathlib.Core.List.{List, [], ◌∷◌}
-use Prim.Native.Nat.{ℕ, ◌+◌, ◌*◌, ◌≤◌}
-use native.Mathlib.Omega.{arith}
-use lib.ListN.{length, set, take}
+use mathlib.Core.List.{[], ◌∷◌}
+use Prim.Native.Nat.{ℕ, ◌+◌, ◌*◌}
+use lib.ListN.{length, take}
 use mir.Val.{bool_byte}
 use Rattle.cube.proofs.Bounds.{bit_bound}
 use Rattle.notes.specs.declared.Notes.{Notes}
@@ -13,8 +12,6 @@ use Rattle.tilings.specs.declared.Choice.TheVariants.{Tiled}
 use Rattle.tilings.specs.Plan.{Chosen, empty, no_tiling, tiling, Reached, reach}
 use Rattle.tilings.specs.Answers.{chosen}
 use Rattle.choice.proofs.Ranges.{empty_counts, untiled_counts}
-use Rattle.put.specs.Placed.{placed}
-use Rattle.put.proofs.Placed.{set_placed, set_after}
 use Rattle.rows.specs.Rows.{width, bytes_of}
 use Rattle.rows.specs.OldRows.{old_bytes_by, OldRows, BareRows}
 use Rattle.rows.specs.declared.Row.{Row}
@@ -52,14 +49,3 @@ bare_rows = record {
   empties = λ case m h. ap (λ (k : Notes). bytes_of (reach empty k)) (empty_counts case m h);
   untiled = λ case c sub m h. ap (λ (k : Notes). bytes_of (reach (no_tiling c sub) k)) (untiled_counts case m c sub h);
 }
-
--- ---- its bytes, stored one after another
-pub row_put : (xs : List ℕ) (at a b c d e f : ℕ) → at + width ≤ length xs
-    → set (set (set (set (set (set xs at a) (at + 1) b) (at + 2) c) (at + 3) d) (at + 4) e) (at + 5) f ≡ placed xs at (a ∷ b ∷ c ∷ d ∷ e ∷ f ∷ [])
-row_put xs at a b c d e f h =
-    ap (λ (ys : List ℕ). set (set (set (set (set ys (at + 1) b) (at + 2) c) (at + 3) d) (at + 4) e) (at + 5) f) (set_placed xs at a (omega arith))
-    ∙ ap (λ (ys : List ℕ). set (set (set (set ys (at + 2) c) (at + 3) d) (at + 4) e) (at + 5) f) (set_after xs at (a ∷ []) (at + 1) b refl (omega arith))
-    ∙ ap (λ (ys : List ℕ). set (set (set ys (at + 3) d) (at + 4) e) (at + 5) f) (set_after xs at (a ∷ b ∷ []) (at + 2) c refl (omega arith))
-    ∙ ap (λ (ys : List ℕ). set (set ys (at + 4) e) (at + 5) f) (set_after xs at (a ∷ b ∷ c ∷ []) (at + 3) d refl (omega arith))
-    ∙ ap (λ (ys : List ℕ). set ys (at + 5) f) (set_after xs at (a ∷ b ∷ c ∷ d ∷ []) (at + 4) e refl (omega arith))
-    ∙ set_after xs at (a ∷ b ∷ c ∷ d ∷ e ∷ []) (at + 5) f refl (omega arith)

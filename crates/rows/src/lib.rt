@@ -6,22 +6,29 @@ ghost use Rattle.std.specs.Prelude.{◌≡◌, ◌+◌, ◌*◌, ◌/◌, ◌≤
 ghost use Rattle.tilings.specs.Answers.{reached};
 ghost use Rattle.put.specs.Placed.{placed};
 ghost use Rattle.reader.specs.Reader.{cube_at};
+ghost use Rattle.choice.specs.Choice.{number_or_0};
 ghost use Rattle.rows.specs.Rows.{width, refusal_at, choice_at, bytes_of};
 ghost use Rattle.rows.specs.Results.{bytes_in, filled};
 
-use cube::Cube;
+use cube::{Cube, Refusal};
 use notes::Notes;
-use reader::Step;
 use tilings::{Choice, Counted};
 
 // The answer bytes of a cube.
 pub const WIDTH: usize = 6;
 
-// What a list comes to: done, or document 01's number of a refusal and the place of its cube.
+// Why a list is refused, and the place of its cube.
 #[derive(Clone, Copy)]
-pub enum Outcome {
-    Done,
-    Refused(u8, usize),
+pub struct ListRefused {
+    pub why: Refusal,
+    pub place: usize,
+}
+
+// The cubes of a list: eight corner values a cube, and two numbers, its case and its configuration.
+#[derive(Clone, Copy)]
+pub struct Cubes<'a> {
+    pub corners: &'a [f32],
+    pub numbers: &'a [i8],
 }
 
 // A cube's answer bytes. `rest` is the centre and the unsettled number.
@@ -35,37 +42,36 @@ pub struct Row {
     pub readings: u8,
 }
 
-fn zeros() -> Cube {
-    Cube {
-        c0: 0.0,
-        c1: 0.0,
-        c2: 0.0,
-        c3: 0.0,
-        c4: 0.0,
-        c5: 0.0,
-        c6: 0.0,
-        c7: 0.0,
+impl Cubes<'_> {
+    // Cube i of the lent corners. The list has it, so the reader gives one.
+    pub fn cube_at(self, i: usize) -> Cube
+        requires { i < length self.corners.now / 8 }
+        ensures { result ≡ cube_at self.entry.corners.now i }
+    {
+        reader::read_at(self.corners, i).unwrap()
     }
-}
 
-// Cube i of the lent corners. The list has it, so the reader gives no part and no end.
-pub fn cube_at(corners: &[f32], i: usize) -> Cube
-    requires { i < length corners.now / 8 }
-    ensures { result ≡ cube_at corners.now i }
-{
-    match reader::read_at(corners, i) {
-        Step::Cube(q) => q,
-        Step::Part => zeros(),
-        Step::End => zeros(),
+    // Why cube i is refused, if it is.
+    pub fn refusal_at(self, i: usize) -> Option<Refusal>
+        requires { (i < length self.corners.now / 8) × (2 * i + 2 ≤ length self.numbers.now) }
+        ensures { number_or_0 result ≡ refusal_at self.entry.corners.now self.entry.numbers.now i }
+    {
+        choice::refusal(
+            self.numbers[2 * i],
+            self.numbers[2 * i + 1],
+            self.cube_at(i),
+        )
     }
-}
 
-// The number of cube i's refusal, 0 where there is none.
-pub fn refusal_at(corners: &[f32], numbers: &[i8], i: usize) -> u8
-    requires { (i < length corners.now / 8) × (2 * i + 2 ≤ length numbers.now) }
-    ensures { result ≡ refusal_at corners.now numbers.now i }
-{
-    choice::refusal(numbers[2 * i], numbers[2 * i + 1], cube_at(corners, i))
+    // The row of cube i, which is not refused.
+    pub fn row_at(self, i: usize) -> Row
+        requires place { (i < length self.corners.now / 8) × (2 * i + 2 ≤ length self.numbers.now) }
+        requires made { refusal_at self.corners.now self.numbers.now i ≡ 0 }
+        ensures { bytes_in result ≡ bytes_of (choice_at self.entry.corners.now self.entry.numbers.now i) }
+    {
+        let cube = self.cube_at(i);
+        row_of(choice::choose_tested(self.numbers[2 * i], self.numbers[2 * i + 1], cube))
+    }
 }
 
 fn filled(code: u8, row: u8, column: u8, rest: u8, notes: Notes) -> Row
@@ -73,10 +79,10 @@ fn filled(code: u8, row: u8, column: u8, rest: u8, notes: Notes) -> Row
     ensures { result ≡ filled code row column rest notes }
 {
     Row {
-        code: code,
-        row: row,
-        column: column,
-        rest: rest,
+        code,
+        row,
+        column,
+        rest,
         unmatched: notes.unmatched,
         readings: notes.readings as u8,
     }
@@ -87,8 +93,7 @@ pub fn row_of(r: Counted) -> Row
     requires { (r.notes.unsettled ≤ 3) × (r.notes.readings ≤ 7) }
     ensures { bytes_in result ≡ bytes_of (reached r) }
 {
-    let choice = r.choice;
-    let notes = r.notes;
+    let Counted { choice, notes } = r;
     match choice {
         Choice::Empty => filled(0, 0, 0, 0, notes),
         Choice::Untiled(c, sub) => filled(255, c, sub, 0, notes),
@@ -102,25 +107,13 @@ pub fn row_of(r: Counted) -> Row
     }
 }
 
-// The row of cube i, which is not refused.
-pub fn row_at(corners: &[f32], numbers: &[i8], i: usize) -> Row
-    requires place { (i < length corners.now / 8) × (2 * i + 2 ≤ length numbers.now) }
-    requires made { refusal_at corners.now numbers.now i ≡ 0 }
-    ensures { bytes_in result ≡ bytes_of (choice_at corners.now numbers.now i) }
-{
-    row_of(choice::choose_tested(numbers[2 * i], numbers[2 * i + 1], cube_at(corners, i)))
-}
-
 // Puts the row of cube i.
+#[tactic(auto, using(put::proofs::Placed::copied))]
 pub fn put_row(r: Row, answers: &mut [u8], i: usize)
     requires { width * i + width ≤ length answers.old }
     ensures { answers.new ≡ placed answers.old (width * i) (bytes_in r) }
 {
     let at = WIDTH * i;
-    answers[at] = r.code;
-    answers[at + 1] = r.row;
-    answers[at + 2] = r.column;
-    answers[at + 3] = r.rest;
-    answers[at + 4] = r.unmatched;
-    answers[at + 5] = r.readings;
+    let bytes = [r.code, r.row, r.column, r.rest, r.unmatched, r.readings];
+    answers[at..at + WIDTH].copy_from_slice(&bytes);
 }

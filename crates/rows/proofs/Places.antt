@@ -1,5 +1,5 @@
 -- A list's cubes, their refusals and choices, as the code reads them. Assumes nothing.
-use mathlib.Core.Path.{◌≡◌, sym, ap, ◌∙◌}
+use mathlib.Core.Path.{◌≡◌, ap, ◌∙◌}
 use mathlib.Core.Bool.{Bool, cond}
 use mathlib.Core.List.{List}
 use Prim.Native.Nat.{ℕ, ◌+◌, ◌*◌, ◌/◌, ◌%◌, ◌<◌}
@@ -11,33 +11,25 @@ use borrow.Author.Tests.{lt-ltb}
 use mir.Syntax.{w8}
 use mir.Val.{SFits, to_z, of_z}
 use mir.ValLaws.{to_z-of_z}
+use Rattle.std.specs.Prelude.{Result, Ok, Err}
 use Rattle.cube.specs.declared.Cube.{Cube}
-use Rattle.reader.specs.declared.Step.{Step}
-use Rattle.reader.specs.declared.Step.TheVariants as step
+use Rattle.reader.specs.declared.Past.{Past}
+use Rattle.reader.specs.declared.Past.TheVariants.{Part, End}
 use Rattle.reader.specs.Reader.{cube, part, end, standing, cube_at, step_at}
 use Rattle.choice.specs.Choice.{refusal_of, choice_of}
 use Rattle.rows.specs.Rows.{refusal_at, choice_at}
 
-module _ (xs : List Float) (i : ℕ) (h : i < length xs / 8) (r : Step) (e : standing r ≡ step_at xs i) where
-  stands : standing r ≡ cube (cube_at xs i)
+module _ (xs : List Float) (i : ℕ) (h : i < length xs / 8) where
+  stands : (r : Result Cube Past) → standing r ≡ step_at xs i → standing r ≡ cube (cube_at xs i)
   unfolding step_at
-  stands =
+  stands r e =
       e ∙ ap (λ (b : Bool). cond b (cube (cube_at xs i)) (cond (eqb (length xs % 8) 0) end part)) (lt-ltb i (length xs / 8) h)
 
-  pub read_cube : (q : Cube) → r ≡ step.Cube q → q ≡ cube_at xs i
-  read_cube q f =
-      let s : cube q ≡ cube (cube_at xs i) = sym (ap standing f) ∙ stands in
-      cc
-
-  pub no_part : (q : Cube) → r ≡ step.Part → q ≡ cube_at xs i
-  no_part q f =
-      let s : part ≡ cube (cube_at xs i) = sym (ap standing f) ∙ stands in
-      cc
-
-  pub no_end : (q : Cube) → r ≡ step.End → q ≡ cube_at xs i
-  no_end q f =
-      let s : end ≡ cube (cube_at xs i) = sym (ap standing f) ∙ stands in
-      cc
+  -- a cube stands at a place that the list has
+  pub read_cube : (r : Result Cube Past) → standing r ≡ step_at xs i → r ≡ Ok (cube_at xs i)
+  read_cube (Ok q) e = let s = stands (Ok q) e in cc
+  read_cube (Err Part) e = let s = stands (Err Part) e in cc
+  read_cube (Err End) e = let s = stands (Err End) e in cc
 
 -- the case, the configuration and the cube as they are read
 module _ (xs : List Float) (ns : List ℤ) (i : ℕ) (q : Cube) (f : SFits w8 (get_or ns (2 * i) (pos 0))) (g : SFits w8 (get_or ns (2 * i + 1) (pos 0))) (e : q ≡ cube_at xs i) where
