@@ -11,6 +11,10 @@ use Rattle.root.specs.Search.{DigitsLeft}
 use Rattle.root.proofs.Squares.{square_le}
 use Rattle.root.proofs.WholeRoot.{root_is}
 
+-- how many are left may be written in another way
+pub as_many : {n root bits left unit : ℕ} → bits ≡ left → DigitsLeft n root bits unit → DigitsLeft n root left unit
+as_many {n} {root} {bits} {left} {unit} e h = subst (λ (b : ℕ). DigitsLeft n root b unit) e h
+
 pub none_left : (n root bits unit : ℕ) → DigitsLeft n root bits unit → bits ≡ 0 → root ≡ whole_root n
 none_left n root bits unit h e =
     let w : unit ≡ 1 = h.weight ∙ ap (λ (b : ℕ). 2 ^ b) e in

@@ -22,15 +22,13 @@ fn isqrt(n: u64, root: u64, bits: u32, unit: u64) -> u64
     ensures { result ≡ whole_root n }
 {
     let mut q = root;
-    let mut left = bits;
     let mut weight = unit;
-    while 0 < left {
-        weight = weight / 2;
+    for _ in 0..bits {
+        weight /= 2;
         let next = q + weight;
         if next * next <= n {
             q = next;
         }
-        left -= 1;
     }
     q
 }

@@ -1,18 +1,16 @@
--- `root::isqrt` finds the whole root. The loop's invariant is what the function asks for, of the digits found so far; the measure is how many are left. Assumes nothing.
+-- `root::isqrt` finds the whole root. Assumes nothing.
 use native.Mathlib.Omega.{arith}
-use Rattle.root.proofs.DigitsLeft.{none_left, tried_square, digit_found}
+use Rattle.root.proofs.DigitsLeft.{none_left, tried_square, digit_found, as_many}
 use Rattle.root.proofs.isqrt.Goals as goal
 
-pub overflow_add-next : goal.overflow_add-next
-overflow_add-next c = omega (arith, c.loop-left.invariant.small)
+pub loop-init : goal.loop-init
+loop-init c = as_many (omega arith) c.requires
 
 pub overflow_mul-next : goal.overflow_mul-next
-overflow_mul-next c = record { fits = tried_square _ (omega (arith, c.loop-left.invariant.small)) }
+overflow_mul-next c = record { fits = tried_square _ (omega (arith, c.loop.invariant.small)) }
 
-pub loop-left-preserved : goal.loop-left-preserved
-loop-left-preserved c =
-    let h = c.loop-left.invariant in
-    digit_found _ _ _ _ h _ (omega arith) (grind arith)
+pub loop-preserved : goal.loop-preserved
+loop-preserved c = as_many (omega arith) (digit_found _ _ _ _ c.loop.invariant _ (omega arith) (grind arith))
 
 pub returns : goal.returns
-returns c = none_left _ _ _ _ c.loop-left.invariant (omega arith)
+returns c = none_left _ _ _ _ c.loop.invariant (omega arith)
