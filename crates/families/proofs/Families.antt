@@ -16,10 +16,7 @@ use Rattle.tilings.specs.Answers.{answers_of}
 use Rattle.families.specs.Plans.{asking, plans, plan_of}
 
 module _ {case c : ℕ} where
-  pub room : {k : ℕ} → case ≡ k → c < get_or configurations case 0 → c < get_or configurations k 0
-  room e h = subst (λ (j : ℕ). c < get_or configurations j 0) e h
-
-  pub of_a_case : c < get_or configurations case 0 → case < 15
+  of_a_case : c < get_or configurations case 0 → case < 15
   unfolding configurations
   of_a_case h = lt_of_not-le (λ (l : 15 ≤ case). not-suc-le-zero (subst (λ (n : ℕ). c < n) (get_or-eq_default configurations 0 l) h))
 
@@ -30,9 +27,6 @@ module _ {case c : ℕ} where
       go : (k : ℕ) → c < get_or configurations k 0 → 0 < k
       go zero h = absurd (not-suc-le-zero h)
       go (suc k) h = omega arith
-
-pub reached : {case : ℕ} (q : Cube) (c : ℕ) {k : ℕ} → case ≡ k → {x : Reached} → x ≡ run (answers_of q) (plan_of k c) no_notes → x ≡ run (answers_of q) (plan_of case c) no_notes
-reached q c e f = f ∙ ap (λ (j : ℕ). run (answers_of q) (plan_of j c) no_notes) (sym e)
 
 -- past case 14 there is no tiling, nor for case 0
 pub no_first : (k : ℕ) → NoneFrom 1 14 k → 0 ≡ first_tiling k

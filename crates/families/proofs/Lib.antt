@@ -1,4 +1,3 @@
-mod Bits
 mod Controls
 pub mod Families
 mod Runs

@@ -26,6 +26,7 @@ pub fn case_3(q: Cube, c: u8) -> Counted
     plain(TILING_3_1, c, 1)
 }
 
+#[tactic(auto, using(crate::proofs::Runs::four_settled))]
 pub fn case_4(q: Cube, c: u8) -> Counted
     requires { c < 8 }
     ensures { reached result ≡ run (answers_of q) (plan4 c) no_notes }

@@ -21,6 +21,7 @@ use tilings::*;
 use two_faces::{case_10, case_12};
 
 // The first tiling of a case, its only one where the case asks nothing.
+#[tactic(auto, using(crate::proofs::Families::no_first), unfolding(tilings::specs::Tilings::first_tiling, tilings::specs::Tilings::tilings_of))]
 fn first_tiling(case: u8) -> u8
     ensures { result ≡ first_tiling case }
 {
@@ -43,19 +44,14 @@ fn first_tiling(case: u8) -> u8
     }
 }
 
-// A bit for each case that asks something.
-const ASKING: u32 = 0x34d8;
-
 pub fn asks(case: u8) -> bool
     ensures { result ≡ is_one_of case asking }
 {
-    if 16 <= case {
-        return false;
-    }
-    (ASKING >> case) % 2 == 1
+    matches!(case, 3 | 4 | 6 | 7 | 10 | 12 | 13)
 }
 
 // The choice for a configuration of a case that asks nothing.
+#[tactic(auto, using(crate::proofs::Families::plainly))]
 pub fn choose_plain(q: Cube, case: u8, c: u8) -> Counted
     requires { (c < get_or configurations case 0) × (is_one_of case asking ≡ false) }
     ensures { reached result ≡ run (answers_of q) (plan_of case c) no_notes }
@@ -64,6 +60,7 @@ pub fn choose_plain(q: Cube, case: u8, c: u8) -> Counted
 }
 
 // The choice for a configuration of a case.
+#[tactic(auto, using(crate::proofs::Families::not_asking), unfolding(tilings::specs::Tilings::configurations, crate::specs::Plans::plans, crate::specs::Plans::plan_of))]
 pub fn choose(q: Cube, case: u8, c: u8) -> Counted
     requires { c < get_or configurations case 0 }
     ensures { reached result ≡ run (answers_of q) (plan_of case c) no_notes }
