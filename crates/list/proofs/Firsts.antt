@@ -9,13 +9,27 @@ use native.Mathlib.Omega.{arith}
 use lib.Dec.{eqb}
 use lib.IntN.{ℤ}
 use lib.Ieee.{Float}
-use borrow.Author.Tests.{eqb-true, ne_eqb}
+use borrow.Author.Tests.{eqb-true}
+use Rattle.cube.specs.declared.Refusal.{Refusal}
+use Rattle.cube.specs.declared.Refusal.TheVariants.{NoCase, NoConfiguration, NotFinite, NoFace, NoEdge, UnevenLists, NoRoom, Malformed}
+use Rattle.cube.specs.Refusals.{refusal_number}
 use Rattle.rows.specs.Rows.{refusal_at, Result, done, refused_at}
 use Rattle.list.specs.Lists.{first_from}
 
 -- by the number of a cube's refusal, and what the cubes after it come to
 abbrev turn : ℕ → ℕ → Result → Result
 turn w i rest = cond (eqb w 0) rest (refused_at w i)
+
+-- no refusal has the number 0
+not_0 : (why : Refusal) → eqb (refusal_number why) 0 ≡ false
+not_0 NoCase = refl
+not_0 NoConfiguration = refl
+not_0 NotFinite = refl
+not_0 NoFace = refl
+not_0 NoEdge = refl
+not_0 UnevenLists = refl
+not_0 NoRoom = refl
+not_0 Malformed = refl
 
 parted : (w i : ℕ) (rest : Result) (b : Bool) → eqb w 0 ≡ b → cond b rest (refused_at w i) ≡ done → (w ≡ 0) × (rest ≡ done)
 parted w i rest true t e = (eqb-true w 0 t, e)
@@ -32,16 +46,15 @@ module _ (xs : List Float) (ns : List ℤ) (n i : ℕ) where
       ap (λ (k : ℕ). first_from xs ns k i) e
       ∙ ap (λ (j : ℕ). turn (refusal_at xs ns i) i (first_from xs ns (n - (i + 1)) j)) (sym (add-one i))
 
-  pub next_made : i < n → (w : ℕ) → w ≡ refusal_at xs ns i → w ≡ 0 → first_from xs ns (n - (i + 1)) (i + 1) ≡ first_from xs ns (n - i) i
-  next_made h w e z =
-      sym (next h ∙ ap (λ (k : ℕ). turn k i (first_from xs ns (n - (i + 1)) (i + 1))) (sym e ∙ z))
+  pub next_made : i < n → 0 ≡ refusal_at xs ns i → first_from xs ns (n - (i + 1)) (i + 1) ≡ first_from xs ns (n - i) i
+  next_made h e = sym (next h ∙ ap (λ (k : ℕ). turn k i (first_from xs ns (n - (i + 1)) (i + 1))) (sym e))
 
-  pub next_refused : i < n → (w : ℕ) → w ≡ refusal_at xs ns i → (w ≡ 0 → ⊥) → refused_at w i ≡ first_from xs ns (n - i) i
-  next_refused h w e z =
+  pub next_refused : i < n → (why : Refusal) → refusal_number why ≡ refusal_at xs ns i → refused_at (refusal_number why) i ≡ first_from xs ns (n - i) i
+  next_refused h why e =
       sym
       (next h
       ∙ ap (λ (k : ℕ). turn k i (first_from xs ns (n - (i + 1)) (i + 1))) (sym e)
-      ∙ ap (λ (b : Bool). cond b (first_from xs ns (n - (i + 1)) (i + 1)) (refused_at w i)) (ne_eqb w 0 z))
+      ∙ ap (λ (b : Bool). cond b (first_from xs ns (n - (i + 1)) (i + 1)) (refused_at (refusal_number why) i)) (not_0 why))
 
   pub none_left : n ≤ i → done ≡ first_from xs ns (n - i) i
   unfolding first_from

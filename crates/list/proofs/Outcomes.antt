@@ -1,20 +1,19 @@
 -- What a list comes to, and its answer bytes, from the tests as the code makes them. Assumes nothing.
-use mathlib.Core.Path.{◌≡◌, refl, sym, ap, subst, ◌∙◌}
+use mathlib.Core.Path.{◌≡◌, refl, sym, ap, ◌∙◌}
 use mathlib.Core.Bool.{Bool, true, false, cond, ◌&&◌}
 use mathlib.Core.List.{List, ◌++◌}
 use Prim.Native.Nat.{ℕ, ◌*◌, ◌/◌, ◌%◌, ◌≤◌, ◌<◌}
 use native.Mathlib.Nat.{zero-add}
-use native.Mathlib.Omega.{arith}
-use lib.Dec.{T, eqb, leb, eqb→eq}
+use lib.Dec.{eqb, leb}
 use lib.IntN.{ℤ}
 use lib.ListN.{length, drop}
 use lib.Ieee.{Float}
-use lib.Ieee.Fits.{and_r}
 use borrow.Author.Tests.{le-leb, lt-leb}
+use Rattle.std.specs.Prelude as std
+use Rattle.std.specs.Prelude.{Ok, Err, IsErrAnd}
 use Rattle.put.specs.Placed.{placed}
 use Rattle.rows.specs.Rows.{width, Result, done, refused_at}
-use Rattle.rows.specs.declared.Outcome.{Outcome}
-use Rattle.rows.specs.declared.Outcome.TheVariants.{Done, Refused}
+use Rattle.rows.specs.declared.ListRefused.{ListRefused}
 use Rattle.rows.specs.Results.{outcome_result}
 use Rattle.rows.specs.Parts.{block}
 use Rattle.list.specs.Lists.{cubes, lengths_agree, first_from, result_of, rows_of, answers_by, answers_of, InPlace}
@@ -24,12 +23,6 @@ module _ (xs : List Float) (ns : List ℤ) where
   -- the tests of refusal 6, as the code makes them
   abbrev agreed : Bool
   agreed = eqb (length xs % 8) 0 && eqb (length ns % 2) 0 && eqb (cubes xs) (length ns / 2)
-
-  pub enough : agreed ≡ true → 2 * cubes xs ≤ length ns
-  enough e =
-      let t = and_r (eqb (length xs % 8) 0 && eqb (length ns % 2) 0) (eqb (cubes xs) (length ns / 2)) (subst T (sym e) tt) in
-      let same = eqb→eq (cubes xs) (length ns / 2) t in
-      omega arith
 
   module _ (ys : List ℕ) where
     -- what `choose_list` promises of this list
@@ -53,32 +46,28 @@ module _ (xs : List Float) (ns : List ℤ) where
     unfolding result_of
     tested b d e f = rw (sym e, sym f)
 
-    pub not_agreed : (n : ℕ) → n ≡ 6 → agreed ≡ false → Promised (refused_at n 0) ys
+    pub not_agreed : agreed ≡ false → Promised (refused_at 6 0) ys
     unfolding lengths_agree
-    not_agreed n s e =
-        promised (refused_at n 0) ys
-        (ap (λ (n : ℕ). refused_at n 0) s ∙ tested false (leb (width * cubes xs) (length ys)) e refl)
-        refl
+    not_agreed e = promised (refused_at 6 0) ys (tested false (leb (width * cubes xs) (length ys)) e refl) refl
 
     module _ (passed : agreed ≡ true) where
-      pub no_room : (n : ℕ) → n ≡ 7 → length ys < width * cubes xs → Promised (refused_at n 0) ys
+      pub no_room : length ys < width * cubes xs → Promised (refused_at 7 0) ys
       unfolding lengths_agree
-      no_room n s h =
-          promised (refused_at n 0) ys (ap (λ (n : ℕ). refused_at n 0) s ∙ tested true false passed (lt-leb (width * cubes xs) (length ys) h)) refl
+      no_room h = promised (refused_at 7 0) ys (tested true false passed (lt-leb (width * cubes xs) (length ys) h)) refl
 
-      module _ (room : width * cubes xs ≤ length ys) (o : Outcome) (e : outcome_result o ≡ first_from xs ns (cubes xs) 0) where
+      module _ (room : width * cubes xs ≤ length ys) where
         first : first_from xs ns (cubes xs) 0 ≡ result_of xs ns (length ys)
         unfolding lengths_agree
         first = tested true true passed (le-leb (width * cubes xs) (length ys) room)
 
-        pub none_refused : o ≡ Done → first_from xs ns (cubes xs) 0 ≡ done
-        none_refused f = sym e ∙ ap outcome_result f
-
-        pub all_done : o ≡ Done → (zs : List ℕ) → zs ≡ placed ys 0 (rows_of xs ns (cubes xs)) → Promised done zs
+        pub all_done : done ≡ first_from xs ns (cubes xs) 0 → (zs : List ℕ) → zs ≡ placed ys 0 (rows_of xs ns (cubes xs)) → Promised done zs
         unfolding placed
-        all_done f zs g =
+        all_done e zs g =
             let rows = rows_of xs ns (cubes xs) in
-            promised done zs (sym (none_refused f) ∙ first) (g ∙ ap (λ (k : ℕ). rows ++ drop k ys) (zero-add (length rows)))
+            promised done zs (e ∙ first) (g ∙ ap (λ (k : ℕ). rows ++ drop k ys) (zero-add (length rows)))
 
-        pub one_refused : (n i : ℕ) → o ≡ Refused n i → Promised (refused_at n i) ys
-        one_refused n i f = promised (refused_at n i) ys (sym (ap outcome_result f) ∙ e ∙ first) refl
+        -- r is what goes out of the function with the first refused cube
+        pub one_refused : (w : ListRefused) → outcome_result (Err w) ≡ first_from xs ns (cubes xs) 0
+            → (r : std.Result (Unit {0}) ListRefused) → IsErrAnd r (λ z. z ≡ w) → Promised (outcome_result r) ys
+        one_refused w e (Ok u) h = absurd h
+        one_refused w e (Err z) h = promised (outcome_result (Err z)) ys (ap (λ z. outcome_result (Err z)) h ∙ e ∙ first) refl

@@ -61,8 +61,3 @@ module _ (xs : List Float) (ns : List ℤ) where
         placed_after before 0 (rows_of xs ns i) ys (width * i) (bytes_of (choice_at xs ns i)) zs (omega arith) (omega arith) e (g ∙ ap (placed ys (width * i)) f)
             ∙ ap (λ (k : ℕ). placed before 0 (rows_of xs ns k)) (sym (add-one i)),
       )
-
-  pub rows_all : (before ys : List ℕ) (i n : ℕ) → i ≤ n → n ≤ i → ys ≡ placed before 0 (rows_of xs ns i) → ys ≡ placed before 0 (rows_of xs ns n)
-  rows_all before ys i n h l e =
-      let same : i ≡ n = omega arith in
-      e ∙ ap (λ (k : ℕ). placed before 0 (rows_of xs ns k)) same

@@ -11,40 +11,36 @@ ghost use Rattle.list.specs.Lists.{first_from, rows_of, result_of, answers_of, I
 ghost use Rattle.list.specs.Tries.{ListTries};
 
 use cube::Refusal;
-use rows::{Outcome, WIDTH};
+use rows::{Cubes, ListRefused, WIDTH};
 
 // The first of n cubes that is refused.
-fn first_refused(corners: &[f32], numbers: &[i8], n: usize) -> Outcome
-    requires { (n ≤ length corners.now / 8) × (2 * n ≤ length numbers.now) }
-    ensures { outcome_result result ≡ first_from corners.now numbers.now n 0 }
+fn first_refused(cubes: Cubes, n: usize) -> Result<(), ListRefused>
+    requires { (n ≤ length cubes.corners.now / 8) × (2 * n ≤ length cubes.numbers.now) }
+    ensures { outcome_result result ≡ first_from cubes.entry.corners.now cubes.entry.numbers.now n 0 }
 {
-    let mut i = 0;
-    while i < n {
-        let why = rows::refusal_at(corners, numbers, i);
-        if why != 0 {
-            return Outcome::Refused(why, i);
+    for place in 0..n {
+        if let Some(why) = cubes.refusal_at(place) {
+            return Err(ListRefused { why, place });
         }
-        i += 1;
     }
-    Outcome::Done
+    Ok(())
 }
 
 // The rows of n cubes, of which none is refused.
-fn put_rows(corners: &[f32], numbers: &[i8], n: usize, answers: &mut [u8])
-    requires sizes { (n ≤ length corners.now / 8) × ((2 * n ≤ length numbers.now) × (width * n ≤ length answers.old)) }
-    requires made { first_from corners.now numbers.now n 0 ≡ done }
-    ensures { answers.new ≡ placed answers.old 0 (rows_of corners.now numbers.now n) }
+fn put_rows(cubes: Cubes, n: usize, answers: &mut [u8])
+    requires sizes { (n ≤ length cubes.corners.now / 8) × ((2 * n ≤ length cubes.numbers.now) × (width * n ≤ length answers.old)) }
+    requires made { first_from cubes.corners.now cubes.numbers.now n 0 ≡ done }
+    ensures { answers.new ≡ placed answers.old 0 (rows_of cubes.entry.corners.now cubes.entry.numbers.now n) }
 {
-    let mut k = 0;
-    while k < n {
-        rows::put_row(rows::row_at(corners, numbers, k), answers, k);
-        k += 1;
+    for k in 0..n {
+        rows::put_row(cubes.row_at(k), answers, k);
     }
 }
 
 // A choice for each cube, a row of answer bytes each: code, row, column, centre + 2 × unsettled, unmatched, readings. Two
 // passes: no byte is written before every cube is known not to be refused.
-pub fn choose_list(corners: &[f32], numbers: &[i8], answers: &mut [u8]) -> Outcome
+#[tactic(auto, using(crate::proofs::Controls::tries_hold, rows::proofs::Rows::old_rows, rows::proofs::Rows::bare_rows))]
+pub fn choose_list(corners: &[f32], numbers: &[i8], answers: &mut [u8]) -> Result<(), ListRefused>
     ensures outcome { outcome_result result ≡ result_of corners.now numbers.now (length answers.old) }
     ensures answers { answers.new ≡ answers_of corners.now numbers.now answers.old }
     ensures tries { ListTries }
@@ -55,16 +51,19 @@ pub fn choose_list(corners: &[f32], numbers: &[i8], answers: &mut [u8]) -> Outco
     let n = corners.len() / 8;
     let agree = (corners.len() % 8 == 0) & (numbers.len() % 2 == 0) & (n == numbers.len() / 2);
     if !agree {
-        return Outcome::Refused(cube::number(Refusal::UnevenLists), 0);
+        return Err(ListRefused {
+            why: Refusal::UnevenLists,
+            place: 0,
+        });
     }
     if answers.len() < WIDTH * n {
-        return Outcome::Refused(cube::number(Refusal::NoRoom), 0);
+        return Err(ListRefused {
+            why: Refusal::NoRoom,
+            place: 0,
+        });
     }
-    match first_refused(corners, numbers, n) {
-        Outcome::Done => {
-            put_rows(corners, numbers, n, answers);
-            Outcome::Done
-        }
-        Outcome::Refused(why, i) => Outcome::Refused(why, i),
-    }
+    let cubes = Cubes { corners, numbers };
+    first_refused(cubes, n)?;
+    put_rows(cubes, n, answers);
+    Ok(())
 }

@@ -1,17 +1,13 @@
--- `list::first_refused` is `first_from`. The invariant: the cubes from i on come to what all of them come to. Assumes nothing.
+-- `list::first_refused` is `first_from`. The invariant: the cubes from a place on come to what all of them come to. Assumes nothing.
 use mathlib.Core.Path.{◌∙◌}
-use native.Mathlib.Omega.{arith}
-use Rattle.list.proofs.Firsts.{from_first, next_made, next_refused, none_left}
+use Rattle.list.proofs.Firsts.{next_made, next_refused, none_left}
 use Rattle.list.proofs.first_refused.Goals as goal
 
-pub loop-i-init : goal.loop-i-init
-loop-i-init c = (omega arith, from_first _ _ _)
+pub returns-in-Some : goal.returns-in-Some
+returns-in-Some c = next_refused _ _ _ _ c.loop-place-test.true _ c.in-Some.ensures ∙ c.loop-place.invariant
 
-pub returns-then-why-ne0 : goal.returns-then-why-ne0
-returns-then-why-ne0 c = next_refused _ _ _ _ c.loop-i-test.true _ c.refusal_at-why.ensures c.if-why-ne0.true ∙ c.loop-i.invariant.1
-
-pub loop-i-preserved : goal.loop-i-preserved
-loop-i-preserved c = (omega arith, next_made _ _ _ _ c.loop-i-test.true _ c.refusal_at-why.ensures c.if-why-ne0.false ∙ c.loop-i.invariant.1)
+pub loop-place-preserved : goal.loop-place-preserved
+loop-place-preserved c = next_made _ _ _ _ c.loop-place-test.true c.in_default.ensures ∙ c.loop-place.invariant
 
 pub returns : goal.returns
-returns c = none_left _ _ _ _ c.loop-i-test.false ∙ c.loop-i.invariant.1
+returns c = none_left _ _ _ _ c.loop-place-test.false ∙ c.loop-place.invariant

@@ -4,25 +4,21 @@ use native.Mathlib.Omega.{arith}
 use Rattle.put.proofs.Placed.{placed_nothing}
 use Rattle.list.specs.Lists.{rows_of}
 use Rattle.list.proofs.Firsts.{from_first, made_one}
-use Rattle.list.proofs.Rows.{rows_again, rows_all}
+use Rattle.list.proofs.Rows.{rows_again}
 use Rattle.list.proofs.put_rows.Goals as goal
 
 pub loop-k-init : goal.loop-k-init
 unfolding rows_of
-loop-k-init c = (omega arith, from_first _ _ _ ∙ c.requires.made, sym (placed_nothing _ 0))
+loop-k-init c = (from_first _ _ _ ∙ c.requires.made, sym (placed_nothing _ 0))
 
 pub row_at-requires-clause-made : goal.row_at-requires-clause-made
 row_at-requires-clause-made c =
     let l = c.loop-k in
-    (made_one c.args.corners.now c.args.numbers.now c.args.n l.k (omega arith) l.invariant.1).0
+    (made_one c.args.cubes.corners.now c.args.cubes.numbers.now c.args.n l.k (omega arith) l.invariant.0).0
 
 pub loop-k-preserved : goal.loop-k-preserved
 loop-k-preserved c =
     let l = c.loop-k in (
-      omega arith,
-      (made_one c.args.corners.now c.args.numbers.now c.args.n l.k (omega arith) l.invariant.1).1,
-      (rows_again _ _ _ _ _ _ _ (omega arith) (omega arith) l.invariant.2 c.row_at.ensures c.put_row.ensures).1,
+      (made_one c.args.cubes.corners.now c.args.cubes.numbers.now c.args.n l.k (omega arith) l.invariant.0).1,
+      (rows_again _ _ _ _ _ _ _ (omega arith) (omega arith) l.invariant.1 c.row_at.ensures c.put_row.ensures).1,
     )
-
-pub returns : goal.returns
-returns c = rows_all _ _ _ _ _ _ c.loop-k.invariant.0 c.loop-k-test.false c.loop-k.invariant.2

@@ -1,6 +1,6 @@
 -- The rows of the first k cubes are put, and none from k on is refused.
 use mathlib.Core.Path.{◌≡◌}
-use Prim.Native.Nat.{◌-◌, ◌≤◌}
+use Prim.Native.Nat.{◌-◌}
 use Rattle.put.specs.Placed.{placed}
 use Rattle.rows.specs.Rows.{done}
 use Rattle.list.specs.Lists.{first_from, rows_of}
@@ -8,7 +8,4 @@ use Rattle.list.proofs.put_rows.Given as goal
 
 abbrev pub invariant-loop-k : goal.invariant-loop-k
 invariant-loop-k l =
-    (l.k ≤ l.n) × (first_from l.corners l.numbers (l.n - l.k) l.k ≡ done) × (l.answers ≡ placed l.initial.answers 0 (rows_of l.corners l.numbers l.k))
-
-abbrev pub decreases-loop-k : goal.decreases-loop-k
-decreases-loop-k l = l.n - l.k
+    (first_from l.cubes.corners.now l.cubes.numbers.now (l.n - l.k) l.k ≡ done) × (l.answers ≡ placed l.initial.answers 0 (rows_of l.cubes.corners.now l.cubes.numbers.now l.k))
