@@ -5,51 +5,35 @@
 
 // Whether the line has a pattern and its root.
 fn agrees(line: &[u8; 18]) -> bool {
-    let bits = hex_digits::word(line, 0);
-    let root = hex_digits::word(line, 9);
-    if 0xffff_ffff < bits || line[8] != b' ' || line[17] != b'\n' {
+    let (Some(bits), Some(root)) = (hex_digits::word(line, 0), hex_digits::word(line, 9)) else {
         return false;
-    }
-    root::root_bits(bits as u32) as u64 == root
+    };
+    line[8] == b' ' && line[17] == b'\n' && root::root_bits(bits) == root
 }
 
-// The next line, and whether it agrees; or the input's end.
-#[derive(Drop)]
-enum Step {
-    Counted(bool),
-    End,
-}
-
-fn next() -> Step {
+// Whether the next line agrees; none at the input's end.
+fn next() -> Option<bool> {
     let mut line = [0u8; 18];
-    let n = io::read_full(0, &mut line);
-    if n == 0 {
-        return Step::End;
+    match io::read_full(0, &mut line) {
+        0 => None,
+        n => Some(n == line.len() && agrees(&line)),
     }
-    Step::Counted(n == 18 && agrees(&line))
 }
 
-fn report(lines: u64, differ: u64) {
-    io::print_decimal(1, lines);
-    io::write_all(1, b" roots, ");
-    io::print_decimal(1, differ);
-    io::write_all(1, b" differ\n");
-}
-
-fn main() {
-    let mut lines: u64 = 0;
-    let mut differ: u64 = 0;
-    while lines < u64::MAX {
-        let step = next();
-        match step {
-            Step::Counted(same) => {
-                lines += 1;
-                if !same {
-                    differ += 1;
-                }
-            }
-            Step::End => break,
+// How many lines there are, and how many of them differ.
+fn count() -> (u64, u64) {
+    let mut differ = 0;
+    for lines in 0..u64::MAX {
+        match next() {
+            Some(true) => {}
+            Some(false) => differ += 1,
+            None => return (lines, differ),
         }
     }
-    report(lines, differ);
+    (u64::MAX, differ)
+}
+
+fn main(rt: HostRuntime) -> std::io::Result<()> {
+    let (lines, differ) = count();
+    println!(rt; "{lines} roots, {differ} differ")
 }
