@@ -1,3 +1,4 @@
+pub mod AtCorners
 pub mod Bounds
 mod Controls
 pub mod Signs

@@ -1,16 +1,21 @@
 -- The code's table has document 01's moves, and a number that is no edge the moves from corner 0 to itself. Assumes nothing.
 use mathlib.Core.Path.{◌≡◌, refl, sym, ap, ◌∙◌}
-use mathlib.Core.Bool.{Bool, true, false, cond, true≢false}
+use mathlib.Core.Logic.{inl, inr}
+use mathlib.Core.Bool.{Bool, true, false, cond, ◌&&◌, true≢false}
 use mathlib.Core.List.{List, [], ◌∷◌, map}
-use Prim.Native.Nat.{ℕ}
+use Prim.Native.Nat.{ℕ, ◌<◌}
 use borrow.Author.Tests.{ltb-true, ltb-false}
-use lib.Dec.{ltb}
+use lib.Dec.{T, ltb, lit<, ltb→lt}
 use lib.IntN.{ℤ, pos, negsuc}
-use lib.ListN.{get_or-eq_default}
+use lib.ListN.{get_or, get_or-eq_default}
+use lib.Ieee.Fits.{and_l, and_r}
 use Rattle.std.specs.Prelude.{Option, Some, None, is_some, slice_index_or}
+use Rattle.std.specs.List.{All}
 use Rattle.std.specs.Option.{unwrap_or}
-use Rattle.cube.proofs.Table.{agree}
-use Rattle.edge.specs.Edge.{moves, move_of}
+use Rattle.std.proofs.lemmas.Bool.{cases_lt}
+use Rattle.std.proofs.lemmas.List.Elements.{All-from_recursion}
+use Rattle.cube.proofs.Table.{all_under, under, agree}
+use Rattle.edge.specs.Edge.{Move, ◌⟶◌, moves, move_of}
 use Rattle.edge.specs.Columns.{ends_of, place_of, row_of}
 
 -- the code's table
@@ -43,3 +48,29 @@ module _ (n : ℤ) (p : Option ℕ) (e : p ≡ place_of n) where
 
   pub none : p ≡ None → (0, 0) ∷ (0, 0) ∷ (0, 0) ∷ (0, 0) ∷ [] ≡ row_of n
   none h = unplaced n (sym h ∙ e)
+
+-- ---- the corners of each move are two of the eight
+abbrev entry : ℕ → ℕ → Move
+entry m k = get_or (get_or moves m []) k (0 ⟶ 0)
+
+abbrev in_the_cube : Move → Bool
+in_the_cube m = ltb m.u 8 && ltb m.v 8
+
+entry_bound : (m k : ℕ) → k < 4 → T (in_the_cube (entry m k))
+unfolding moves
+entry_bound m k h = elim (cases_lt m 12) [
+  | inl l ↦ under 4 (λ k. in_the_cube (entry m k)) (under 12 (λ m. all_under 4 (λ k. in_the_cube (entry m k))) tt m l) k h
+  | inr l ↦ rw (get_or-eq_default moves [] l) tt
+]
+
+bound_of : (m : Move) → T (in_the_cube m) → (m.u < 8) × (m.v < 8)
+bound_of m t = (ltb→lt m.u 8 (and_l (ltb m.u 8) (ltb m.v 8) t), ltb→lt m.v 8 (and_r (ltb m.u 8) (ltb m.v 8) t))
+
+move_bound : (n : ℤ) (k : ℕ) → k < 4 → ((move_of n k).u < 8) × ((move_of n k).v < 8)
+unfolding move_of
+move_bound (pos m) k h = bound_of (entry m k) (entry_bound m k h)
+move_bound (negsuc m) k h = (lit< tt, lit< tt)
+
+pub row_bound : (n : ℤ) (r : List (ℕ × ℕ)) → r ≡ row_of n → All (λ m. (m.0 < 8) × (m.1 < 8)) r
+row_bound n r e =
+    rw (e) (All-from_recursion (λ (m : ℕ × ℕ). (m.0 < 8) × (m.1 < 8)) (row_of n) (move_bound n 0 (lit< tt), (move_bound n 1 (lit< tt), (move_bound n 2 (lit< tt), (move_bound n 3 (lit< tt), tt)))))

@@ -3,7 +3,8 @@
 // read by them; and `a_of`, `b_of` and `place_at`, which the case-13 test needs too.
 #![tactic(auto)]
 
-ghost use Rattle.std.specs.Prelude.{◌≡◌};
+ghost use Rattle.std.specs.Prelude.{◌≡◌, ◌<◌};
+ghost use Rattle.std.specs.List.{All};
 ghost use Rattle.std.specs.Float.{binary32};
 ghost use Rattle.std.specs.Float.Ieee.{add, sub, mul};
 ghost use Rattle.binary32.specs.Numbers.{f32};
@@ -12,7 +13,7 @@ ghost use Rattle.edge.specs.Edge.{a_of, b_of, quotients, edge_by, told, said, ed
 ghost use Rattle.edge.specs.Columns.{place_of, row_of};
 ghost use Rattle.edge.specs.Moves.{moves_of, product_of, read_of};
 
-use cube::{Corner, Cube, EdgeNo, Refusal};
+use cube::{Cube, EdgeNo, Refusal};
 
 // What is read at an edge: `Rising` where a > 0, `Beyond` with t where t < 0 or t > 1, `Crossed` with t and the
 // product, or `Blank` where t or the product is NaN.
@@ -65,7 +66,8 @@ fn place(edge: EdgeNo) -> Option<usize>
 
 // The corners of an edge's moves. A number that is no edge moves from corner 0 to itself four times.
 fn row(edge: EdgeNo) -> [(u8, u8); 4]
-    ensures { result ≡ row_of edge.0 }
+    ensures row { result ≡ row_of edge.0 }
+    ensures corners { All (λ m. (m.0 < 8) × (m.1 < 8)) result }
 {
     match place(edge) {
         Some(k) => MOVES[k],
@@ -74,12 +76,14 @@ fn row(edge: EdgeNo) -> [(u8, u8); 4]
 }
 
 // The value at a move's u, and g = v - u.
+#[tactic(auto, using(cube::proofs::AtCorners::at_corner))]
 fn value_and_g(values: &[f32; 8], u: u8, v: u8) -> (f32, f32)
+    requires { (u < 8) × (v < 8) }
     ensures u { result.0 ≡ value_at values.now u }
     ensures g { result.1 ≡ sub binary32 (value_at values.now v) (value_at values.now u) }
 {
-    let at_u = cube::value_at(values, Corner(u));
-    (at_u, cube::value_at(values, Corner(v)) - at_u)
+    let at_u = values[u as usize];
+    (at_u, values[v as usize] - at_u)
 }
 
 // The moves of an edge, by the corners' values.

@@ -3,18 +3,21 @@ use mathlib.Core.Path.{◌≡◌, refl}
 use mathlib.Core.Logic.{inl, inr}
 use mathlib.Core.Bool.{cond, ◌&&◌, and-false}
 use mathlib.Core.List.{List, [], ◌∷◌, map, tail}
-use Prim.Native.Nat.{ℕ}
+use Prim.Native.Nat.{ℕ, ◌<◌}
 use borrow.Author.Tests.{lt-leb}
-use lib.Dec.{leb}
+use lib.Dec.{leb, ltb, lit<, ltb→lt}
 use lib.IntN.{ℤ, nat_abs}
 use lib.ListN.{get_or, get_or-eq_default}
-use lib.Ieee.{Float}
+use lib.Ieee.{Float, nan}
 use Rattle.std.specs.Prelude.{Option, Some, None, slice_index_or}
+use Rattle.std.specs.List.{All}
 use Rattle.std.specs.Option.{unwrap_or}
 use Rattle.std.proofs.lemmas.Bool.{cases_lt}
+use Rattle.std.proofs.lemmas.List.Elements.{All-from_recursion}
 use Rattle.cube.specs.declared.Cube.{Cube}
-use Rattle.cube.specs.Corners.{corners, value_at, corner_of}
-use Rattle.cube.proofs.Table.{agree}
+use Rattle.cube.specs.Corners.{corners, corner_of}
+use Rattle.cube.proofs.Table.{all_under, under, agree}
+use Rattle.cube.proofs.AtCorners.{at_corner}
 use Rattle.face.specs.declared.Square.{Square}
 use Rattle.face.specs.Face.{face_corners, face_corner}
 use Rattle.face.specs.Columns.{place_of, row_of, square_of}
@@ -40,9 +43,24 @@ pub rowed : (n : ℤ) (p : Option ℕ) (k : ℕ) → p ≡ place_of n → k ≡ 
 unfolding by_size row face_corner
 rowed n p k ep e = rw (e, ep) (same (nat_abs n))
 
+-- each of a face's corners is one of the eight
+one_of_eight : (m k : ℕ) → k < 4 → get_or (get_or face_corners m []) k 0 < 8
+unfolding face_corners
+one_of_eight m k h = elim (cases_lt m 7) [
+  | inl l ↦ ltb→lt _ 8 (under 4 (λ k. ltb (get_or (get_or face_corners m []) k 0) 8) (under 7 (λ m. all_under 4 (λ k. ltb (get_or (get_or face_corners m []) k 0) 8)) tt m l) k h)
+  | inr l ↦ rw (get_or-eq_default face_corners [] l) (lit< tt)
+]
+
+pub corner_bound : (n : ℤ) (k : ℕ) → k < 4 → face_corner n k < 8
+unfolding face_corner
+corner_bound n k h = one_of_eight (nat_abs n) k h
+
+pub corners_bound : (n : ℤ) (r : List ℕ) → r ≡ row_of n → All (λ k. k < 8) r
+corners_bound n r e =
+    rw (e) (All-from_recursion (λ (k : ℕ). k < 8) (row_of n) (corner_bound n 0 (lit< tt), (corner_bound n 1 (lit< tt), (corner_bound n 2 (lit< tt), (corner_bound n 3 (lit< tt), tt)))))
+
 -- ---- what the code reads
-pub squared : (q : Cube) (n : ℤ) (vs : List Float) (r : List ℕ) (a b c d : Float) → vs ≡ corners q → r ≡ row_of n
-    → a ≡ value_at vs (slice_index_or r 0 0) → b ≡ value_at vs (slice_index_or r 1 0) → c ≡ value_at vs (slice_index_or r 2 0) → d ≡ value_at vs (slice_index_or r 3 0)
-    → ◌≡◌ {A = Square} (record { a = a; b = b; c = c; d = d }) (square_of q n)
+pub squared : (q : Cube) (n : ℤ) (vs : List Float) (r : List ℕ) → vs ≡ corners q → r ≡ row_of n
+    → ◌≡◌ {A = Square} (record { a = slice_index_or vs (slice_index_or r 0 0) nan; b = slice_index_or vs (slice_index_or r 1 0) nan; c = slice_index_or vs (slice_index_or r 2 0) nan; d = slice_index_or vs (slice_index_or r 3 0) nan }) (square_of q n)
 unfolding corner_of
-squared q n vs r a b c d ev er ea eb ec ed = rw (ea, eb, ec, ed, ev, er)
+squared q n vs r ev er = rw (ev, er, at_corner _ _ (corner_bound n 0 (lit< tt)), at_corner _ _ (corner_bound n 1 (lit< tt)), at_corner _ _ (corner_bound n 2 (lit< tt)), at_corner _ _ (corner_bound n 3 (lit< tt)))

@@ -3,13 +3,14 @@
 // `square_of`, the values at its corners.
 #![tactic(auto)]
 
-ghost use Rattle.std.specs.Prelude.{◌≡◌, nat_abs};
+ghost use Rattle.std.specs.Prelude.{◌≡◌, ◌<◌, nat_abs};
+ghost use Rattle.std.specs.List.{All};
 ghost use Rattle.binary32.specs.Numbers.{f32};
 ghost use Rattle.face.specs.Face.{rule, face_of, said, test_face_of};
 ghost use Rattle.face.specs.Columns.{place_of, row_of, square_of};
 ghost use Rattle.face.specs.Laws.{FaceLawsAt, FaceLawsOf};
 
-use cube::{Corner, Cube, Face, Refusal};
+use cube::{Cube, Face, Refusal};
 
 // The values at the corners of a face, in the face's order.
 #[derive(Clone, Copy)]
@@ -61,7 +62,8 @@ fn join(face: Face, a: f32, b: f32, c: f32, d: f32) -> bool
 
 // Corners a, b, c and d of a face.
 fn corners_of(face: Face) -> [u8; 4]
-    ensures { result ≡ row_of face.0 }
+    ensures row { result ≡ row_of face.0 }
+    ensures corners { All (λ k. k < 8) result }
 {
     CORNERS[place(face).unwrap_or(0) as usize]
 }
@@ -73,10 +75,10 @@ pub fn square_of(q: Cube, face: Face) -> Square
     let values = cube::values(q);
     let [a, b, c, d] = corners_of(face);
     Square {
-        a: cube::value_at(&values, Corner(a)),
-        b: cube::value_at(&values, Corner(b)),
-        c: cube::value_at(&values, Corner(c)),
-        d: cube::value_at(&values, Corner(d)),
+        a: values[a as usize],
+        b: values[b as usize],
+        c: values[c as usize],
+        d: values[d as usize],
     }
 }
 

@@ -3,6 +3,4 @@ use Rattle.face.proofs.Columns.{squared}
 use Rattle.face.proofs.square_of.Goals as goal
 
 pub returns : goal.returns
-returns c =
-    squared _ _ _ _ _ _ _ _ c.values-values.ensures c.corners_of.ensures
-    c.value_at.ensures c.value_at-2.ensures c.value_at-3.ensures c.value_at-4.ensures
+returns c = squared _ _ _ _ c.values-values.ensures c.corners_of.ensures.row
