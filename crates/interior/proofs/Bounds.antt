@@ -1,8 +1,8 @@
 -- Of the readings that an interior test makes, one for each face, unsettled and unmatched are no more: the bounds that callers' sums want. Assumes nothing.
-use mathlib.Core.Path.{◌≡◌, refl}
+use mathlib.Core.Path.{refl}
 use mathlib.Core.Bool.{Bool}
 use mathlib.Core.List.{List, [], ◌∷◌}
-use Prim.Native.Nat.{ℕ, ◌+◌, ◌*◌, ◌≤◌}
+use Prim.Native.Nat.{ℕ, ◌+◌, ◌≤◌}
 use native.Mathlib.Omega.{arith}
 use lib.Dec.{lit≤}
 use lib.IntN.{ℤ, pos}
@@ -43,7 +43,3 @@ module _ (K : Numbers) (D : Quotients K) where
 pub inside_bound : (q : Cube) (faces : List ℕ) (s : ℤ) → AtMost (inside_of q faces s).notes (looks_of (length faces))
 unfolding inside_of
 inside_bound q faces s = all_bound f32 quotients (corner_of q) faces s
-
--- with what an interior test counts in all
-pub with_few : (q : Cube) (faces : List ℕ) (s : ℤ) (x : Sight) → x ≡ inside_of q faces s → (x ≡ inside_of q faces s) × (counted x ≤ 3 * length faces)
-with_few q faces s x e = (e, rw e (let (h, (i, f)) = inside_bound q faces s in omega (arith, f)))

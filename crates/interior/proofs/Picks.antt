@@ -1,28 +1,28 @@
--- The diagonal pick as code makes it: the four pairs, their set as a number, and the edge that is its digit. Assumes nothing.
+-- The diagonal pick as code makes it: the four pairs, their set as a number, and the edge that the table has for it. Assumes nothing.
 use mathlib.Core.Path.{◌≡◌, refl, sym, ap, subst, ◌∙◌}
 use mathlib.Core.Bool.{Bool, true, false, not, cond, beq, ◌&&◌}
 use mathlib.Core.List.{List, [], ◌∷◌}
-use Prim.Native.Nat.{ℕ, zero, suc, ◌+◌, ◌*◌, ◌/◌, ◌%◌, ◌^◌, ◌≤◌, ◌<◌}
+use Prim.Native.Nat.{ℕ, zero, suc, ◌-◌, ◌≤◌, ◌<◌}
 use native.Mathlib.Nat.{not-suc-le-zero}
 use native.Mathlib.Omega.{arith}
-use borrow.Author.Tests.{lt-ltb, le-ltb, ne_eqb}
 use lib.Dec.{T, ltb, eqb, eqb→eq, ltb→lt, lt→ltb, lit≤}
-use lib.IntN.{ℤ, pos}
+use lib.IntN.{ℤ, pos, negsuc}
 use lib.ListN.{get_or}
 use lib.Ieee.{Float, binary32, mul, lt, of_bits, of_int}
 use lib.Ieee.Fits.{and_l, and_r}
 use mir.Syntax.{w8}
 use mir.Val.{SFits, to_z, of_z}
-use mir.ValLaws.{to_z-of_z, to_z_pos}
+use mir.ValLaws.{to_z-of_z}
 use Rattle.binary32.specs.Numbers.{Numbers}
 use Rattle.cube.specs.declared.Cube.{Cube}
-use Rattle.cube.specs.Bits.{bit_of, number_of}
+use Rattle.cube.specs.Bits.{number_of}
 use Rattle.cube.specs.Corners.{corners, value_at, corner_of}
 use Rattle.cube.proofs.Table.{all_under, under}
 use Rattle.edge.specs.Edge.{is_edge}
 use Rattle.interior.specs.declared.Diagonals.{Diagonals}
+use Rattle.interior.specs.declared.TheConstants.{EDGES}
 use Rattle.interior.specs.Pick.{Diagonal, diagonals, last_match, any_match, IsAmbiguousFace, Picked, pick_with, any_pair, pick_by}
-use Rattle.interior.specs.Diagonals.{diagonals_by, diagonals_of, held_by, set_of, edges_of}
+use Rattle.interior.specs.Diagonals.{diagonals_by, diagonals_of, held_by, set_of}
 
 -- ---- the four pairs: s comes as a float made of the bits of an i8
 abbrev matched : ℤ → Float → Float → Bool
@@ -35,37 +35,25 @@ pub all_pairs : (q : Cube) (s : ℤ) → SFits w8 s
 unfolding diagonals_by corner_of value_at corners of_bits
 all_pairs q s f = rw (to_z-of_z w8 s f)
 
--- ---- the pairs that match as a number
-pub bounded : (d : Diagonals) (k l : ℕ) → (k ≤ 7) × (k ≡ number_of (d.from0 ∷ d.from1 ∷ d.from2 ∷ [])) → (l ≤ 1) × (l ≡ bit_of d.from3)
-    → (k + 8 * l ≤ 15) × (k + 8 * l ≡ set_of d)
-unfolding set_of number_of
-bounded d k l (h, e) (i, f) = (omega arith, omega (arith, e, f))
+-- ---- the table of edges, by face and by the set of the pairs that match
+-- the entry for a face and a set is the edge of the last pair that matches, and the set is not 0 where any does: one test over all sets and faces
+abbrev entry : ℕ → ℕ → ℤ
+entry n set = to_z w8 (of_z w8 (get_or (get_or EDGES (n - 1) []) set (pos 0)))
 
--- ---- the edges by set: faces 5 and 6, then 1 and 3, then 2 and 4
-module _ (n : ℕ) where
-  pub high_edges : 4 < n → 0xbbbbbbbbaaaa9980 ≡ edges_of n
-  unfolding edges_of
-  high_edges h = rw (lt-ltb 4 n h)
+abbrev is_pos : ℤ → ℕ → Bool
+is_pos (pos k) m = eqb k m
+is_pos (negsuc k) m = false
 
-  module _ (l : n ≤ 4) where
-    pub odd_edges : n % 2 ≡ 1 → 0x7777666677775450 ≡ edges_of n
-    unfolding edges_of
-    odd_edges e = rw (le-ltb 4 n l, e)
+pos_lem : (z : ℤ) (m : ℕ) → T (is_pos z m) → z ≡ pos m
+pos_lem (pos k) m t = ap pos (eqb→eq k m t)
+pos_lem (negsuc k) m t = absurd t
 
-    pub even_edges : (n % 2 ≡ 1 → ⊥) → 0x3232323231313030 ≡ edges_of n
-    unfolding edges_of
-    even_edges e = rw (le-ltb 4 n l, ne_eqb (n % 2) 1 e)
-
--- the digit at a set is the edge of the last pair that matches, and the set is not 0 where any does: one test over all sets and faces
 module _ (d : Diagonals) (n : ℕ) where
-  abbrev digit : ℕ
-  digit = edges_of n / 2 ^ (4 * set_of d) % 16
-
   abbrev picked : Picked
   picked = pick_with (held_by d) n
 
   abbrev same_edge : Bool
-  same_edge = eqb digit picked.edge
+  same_edge = is_pos (entry n (set_of d)) picked.edge
 
   abbrev same_match : Bool
   same_match = beq (not (eqb (set_of d) 0)) picked.matched
@@ -87,7 +75,7 @@ each p t true = and_l (p true) (p false) t
 each p t false = and_r (p true) (p false) t
 
 all_right : T (always (λ a. always (λ b. always (λ c. always (right a b c)))))
-unfolding edges_of set_of number_of held_by pick_with last_match any_match diagonals
+unfolding set_of number_of held_by pick_with last_match any_match diagonals
 all_right = tt
 
 right_at : (a b c e : Bool) → T (right a b c e)
@@ -104,8 +92,8 @@ same_answer false true h = absurd h
 same_answer false false h = refl
 
 module _ (d : Diagonals) (n : ℕ) (h : IsAmbiguousFace n) where
-  last_digit : digit d n ≡ (picked d n).edge
-  last_digit = eqb→eq (digit d n) (picked d n).edge (and_l (same_edge d n) (same_match d n) (right_for d n h))
+  last_entry : entry n (set_of d) ≡ pos (picked d n).edge
+  last_entry = pos_lem (entry n (set_of d)) (picked d n).edge (and_l (same_edge d n) (same_match d n) (right_for d n h))
 
   any_in_set : not (eqb (set_of d) 0) ≡ (picked d n).matched
   any_in_set = same_answer (not (eqb (set_of d) 0)) (picked d n).matched (and_r (same_edge d n) (same_match d n) (right_for d n h))
@@ -137,15 +125,12 @@ an_edge matches n h = last_below matches 0 (get_or diagonals n []) (omega arith)
 
 -- ---- the pick
 module _ (d : Diagonals) where
-  pub edge_picked : (n : ℕ) → IsAmbiguousFace n → (es set : ℕ) → es ≡ edges_of n → (set ≤ 15) × (set ≡ set_of d)
-      → (to_z w8 (es / 2 ^ (4 * set) % 16) ≡ pos (pick_with (held_by d) n).edge) × T (is_edge (to_z w8 (es / 2 ^ (4 * set) % 16)))
-  edge_picked n h es set ee (l, se) = (e, subst (λ (z : ℤ). T (is_edge z)) (sym e) (lt→ltb (pick_with (held_by d) n).edge 12 (an_edge (held_by d) n h.1)))
+  pub edge_picked : (n : ℕ) → IsAmbiguousFace n → (set : ℕ) → (set ≤ 15) × (set ≡ set_of d)
+      → (entry n set ≡ pos (pick_with (held_by d) n).edge) × T (is_edge (entry n set))
+  edge_picked n h set (l, se) = (e, subst (λ (z : ℤ). T (is_edge z)) (sym e) (lt→ltb (pick_with (held_by d) n).edge 12 (an_edge (held_by d) n h.1)))
     where
-      small : digit d n < 128
-      small = omega arith
-
-      e : to_z w8 (es / 2 ^ (4 * set) % 16) ≡ pos (pick_with (held_by d) n).edge
-      e = rw (ee, se, ← last_digit d n h, to_z_pos w8 (digit d n) small)
+      e : entry n set ≡ pos (pick_with (held_by d) n).edge
+      e = rw se (last_entry d n h)
 
   pub matched_for : (set : ℕ) → (set ≤ 15) × (set ≡ set_of d) → (n : ℕ) → IsAmbiguousFace n → not (eqb set 0) ≡ (pick_with (held_by d) n).matched
   matched_for set (l, se) n h = rw se (any_in_set d n h)

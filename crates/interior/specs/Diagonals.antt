@@ -1,5 +1,5 @@
 -- How the code of the diagonal pick keeps the four pairs, each by its first corner. Definitions only.
-use Rattle.std.specs.Prelude.{ℕ, ◌%◌, Bool, false, cond, [], ◌∷◌, ltb, eqb, ℤ, get_or}
+use Rattle.std.specs.Prelude.{ℕ, Bool, false, [], ◌∷◌, ℤ, get_or}
 use Rattle.binary32.specs.Numbers.{Numbers, f32}
 use Rattle.cube.specs.declared.Cube.{Cube}
 use Rattle.cube.specs.Bits.{number_of}
@@ -25,7 +25,3 @@ held_by d p = get_or (d.from0 ∷ d.from1 ∷ d.from2 ∷ d.from3 ∷ []) p.one 
 -- the pairs that match as a number, 1 for the pair of corner 0, 2 for that of corner 1, then 4 and 8
 unfoldable pub set_of : Diagonals → ℕ
 set_of d = number_of (d.from0 ∷ d.from1 ∷ d.from2 ∷ d.from3 ∷ [])
-
--- the edges that a face's pairs lead to, a hex digit for each set: faces 5 and 6, then 1 and 3, then 2 and 4
-unfoldable pub edges_of : ℕ → ℕ
-edges_of n = cond (ltb 4 n) 0xbbbbbbbbaaaa9980 (cond (eqb (n % 2) 1) 0x7777666677775450 0x3232323231313030)

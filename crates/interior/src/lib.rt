@@ -8,7 +8,7 @@ ghost use Rattle.binary32.specs.Numbers.{f32};
 ghost use Rattle.edge.specs.Edge.{quotients, valued, told, is_edge};
 ghost use Rattle.edge.specs.Moves.{read_of};
 ghost use Rattle.interior.specs.Pick.{IsAmbiguousFace, pick_with};
-ghost use Rattle.interior.specs.Diagonals.{diagonals_of, held_by, set_of, edges_of};
+ghost use Rattle.interior.specs.Diagonals.{diagonals_of, held_by, set_of};
 ghost use Rattle.interior.specs.Settled.{is_past, is_off, is_real};
 ghost use Rattle.interior.specs.Interior.{is_unsettled, seen_as, joined, counted, inside_of};
 
@@ -40,6 +40,7 @@ struct Diagonals {
     pub from3: bool,
 }
 
+#[tactic(auto, using(crate::proofs::Picks::all_pairs))]
 fn diagonals_of(q: Cube, side: Side) -> Diagonals
     ensures { result ≡ diagonals_of q side.0 }
 {
@@ -53,25 +54,21 @@ fn diagonals_of(q: Cube, side: Side) -> Diagonals
 }
 
 // The pairs that match as a number, a bit for each first corner.
+#[tactic(auto, unfolding(crate::specs::Diagonals::set_of, cube::specs::Bits::number_of))]
 fn set_of(d: Diagonals) -> u32
     ensures { (result ≤ 15) × (result ≡ set_of d) }
 {
     three(d.from0, d.from1, d.from2) + 8 * bit(d.from3)
 }
 
-// The edges that a face's pairs lead to: the hex digit at place k is the edge for the set k. Faces 5 and 6, then 1
-// and 3, then 2 and 4.
-fn edges(n: u32) -> u64
-    ensures { result ≡ edges_of n }
-{
-    if 4 < n {
-        return 0xbbbb_bbbb_aaaa_9980;
-    }
-    if n % 2 == 1 {
-        return 0x7777_6666_7777_5450;
-    }
-    0x3232_3232_3131_3030
-}
+// The edges that a face's pairs lead to, by the set that matches.
+const EDGES_13: [i8; 16] = [0, 5, 4, 5, 7, 7, 7, 7, 6, 6, 6, 6, 7, 7, 7, 7];
+
+const EDGES_24: [i8; 16] = [0, 3, 0, 3, 1, 3, 1, 3, 2, 3, 2, 3, 2, 3, 2, 3];
+
+const EDGES_56: [i8; 16] = [0, 8, 9, 9, 10, 10, 10, 10, 11, 11, 11, 11, 11, 11, 11, 11];
+
+static EDGES: [[i8; 16]; 6] = [EDGES_13, EDGES_24, EDGES_13, EDGES_24, EDGES_56, EDGES_56];
 
 // The diagonal pick, from the pairs that match: with those of `diagonals_of`, document 01's. Edge 0 may be picked by a
 // match, or be left over where there is none: it is read either way, so this is no Option. (With one the compiler made a
@@ -80,11 +77,11 @@ fn interior_ambiguity(d: Diagonals, face: AmbiguousFace) -> EdgeNo
     ensures pick { result.0 ≡ pos (pick_with (held_by d) face.n).edge }
     ensures edge { T (is_edge result.0) }
 {
-    let edge = (edges(face.n) >> (4 * set_of(d))) % 16;
-    EdgeNo(edge as i8)
+    EdgeNo(EDGES[(face.n - 1) as usize][set_of(d) as usize])
 }
 
 // Whether any pair matches, whichever face the pick is made for: each has the same four.
+#[tactic(auto, using(crate::proofs::Picks::matched_for))]
 fn any_match(d: Diagonals) -> bool
     ensures { (n : ℕ) → IsAmbiguousFace n → result ≡ (pick_with (held_by d) n).matched }
 {
@@ -121,6 +118,7 @@ fn is_off(r: Reading) -> bool
 
 // Whether a reading is unsettled: crossed with product zero, or blank. Asked by the two tests of what is settled, since
 // the compiler makes one comparison of them for the zero and the NaN.
+#[tactic(auto, using(crate::proofs::Settled::neither_test))]
 fn is_unsettled(r: Reading) -> bool
     requires { T (is_real (told r)) }
     ensures { result ≡ is_unsettled f32 quotients (told r) }
@@ -129,6 +127,7 @@ fn is_unsettled(r: Reading) -> bool
 }
 
 // What a reading says: whether its value is 1, and what it and the pick of its edge count.
+#[tactic(auto, unfolding(crate::specs::Interior::seen_as))]
 fn sight_of(r: Reading, matched: bool) -> Sight
     requires { T (is_real (told r)) }
     ensures { result ≡ seen_as f32 quotients matched (told r) }
@@ -140,6 +139,7 @@ fn sight_of(r: Reading, matched: bool) -> Sight
 }
 
 // What is read by the moves of an edge, and whether a pair matched where the edge was picked.
+#[tactic(auto, using(crate::proofs::Settled::told_by_moves))]
 fn look(m: Moves, matched: bool) -> Sight
     ensures { result ≡ seen_as f32 quotients matched (read_of m) }
 {
@@ -147,6 +147,7 @@ fn look(m: Moves, matched: bool) -> Sight
 }
 
 // Two sights as one: true if any, the counts added.
+#[tactic(auto, unfolding(crate::specs::Interior::joined))]
 fn join(x: Sight, y: Sight) -> Sight
     requires { counted x + counted y ≤ 255 }
     ensures { result ≡ joined x y }

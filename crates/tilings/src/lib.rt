@@ -111,16 +111,22 @@ pub const TILING_13_5_2: u8 = 37;
 
 pub const TILING_14: u8 = 38;
 
-// A bit for each code whose tiling is drawn with the centre.
-const CENTRES: u64 = 0xe18602000;
-
+// Whether a code's tiling is drawn with the centre.
+#[tactic(auto, unfolding(crate::specs::Tilings::has_centre))]
 pub fn has_centre(code: u8) -> bool
     ensures { result ≡ has_centre code }
 {
-    if 64 <= code {
-        return false;
-    }
-    (CENTRES >> code) % 2 == 1
+    matches!(
+        code,
+        TILING_7_3
+            | TILING_10_2
+            | TILING_10_2_
+            | TILING_12_2
+            | TILING_12_2_
+            | TILING_13_3
+            | TILING_13_3_
+            | TILING_13_4
+    )
 }
 
 // The choice of case 0.

@@ -4,5 +4,5 @@ use Rattle.interior.proofs.interior_ambiguity.Goals as goal
 
 pub returns : goal.returns
 returns c =
-    let (pick, edge) = edge_picked _ _ c.args.face.ambiguous _ _ c.edges.ensures c.set_of.ensures in
+    let (pick, edge) = edge_picked _ _ c.args.face.ambiguous _ c.set_of.ensures in
     record { pick = pick; edge = edge }
