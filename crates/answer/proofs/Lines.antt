@@ -9,10 +9,11 @@ use lib.IntN.{ℤ}
 use lib.ListN.{length}
 use borrow.Author.Tests.{le-leb, lt-leb}
 use Rattle.cube.specs.declared.Cube.{Cube}
-use Rattle.choice.specs.declared.Answer.{Answer}
+use Rattle.std.specs.Prelude.{Option, None, Some, Result}
+use Rattle.cube.specs.declared.Refusal.{Refusal}
+use Rattle.tilings.specs.declared.Counted.{Counted}
 use Rattle.choice.specs.Choice.{answer_of, said}
 use Rattle.line.specs.declared.Line.{Line}
-use Rattle.line.specs.declared.Line.TheVariants.{Given, Malformed}
 use Rattle.line.specs.Line.{given, parsed, parse_line}
 use Rattle.line.proofs.Lengths.{short}
 use Rattle.answer.specs.Answer.{answer, refusal, same, input_names, output_names, choice_reply, cube_reply, reply_to}
@@ -40,20 +41,20 @@ module _ (number : ℕ) (line : List ℕ) where
       let z : ◌≡◌ {A = ℕ} 0 1 = cc in
       omega arith
 
-  module _ (later : 1 < number) (l : Line) (e : parsed l ≡ parse_line line) where
-    pub malformed_reply : l ≡ Malformed → reply_to number line ≡ refusal 8
+  module _ (later : 1 < number) (l : Option Line) (e : parsed l ≡ parse_line line) where
+    pub malformed_reply : l ≡ None → reply_to number line ≡ refusal 8
     unfolding reply_to cube_reply
     malformed_reply m = rw (lt-leb number 1 later, sym e, m)
 
-    cube_reply_lem : (k c y z : ℤ) (q : Cube) → l ≡ Given k c q → y ≡ k → z ≡ c → (r : Answer) → said r ≡ answer_of y z q → reply_to number line ≡ choice_reply (said r)
+    cube_reply_lem : (m : Line) (y z : ℤ) → l ≡ Some m → y ≡ m.case → z ≡ m.configuration → (r : Result Counted Refusal) → said r ≡ answer_of y z m.cube → reply_to number line ≡ choice_reply (said r)
     unfolding reply_to cube_reply
-    cube_reply_lem k c y z q g f h r s = rw (lt-leb number 1 later, sym e, g, s, f, h)
+    cube_reply_lem m y z g f h r s = rw (lt-leb number 1 later, sym e, g, s, f, h)
 
     -- a cube's line of the output is shorter than any line that is one
-    pub cube_answered : (k c y z : ℤ) (q : Cube) → l ≡ Given k c q → y ≡ k → z ≡ c → (r : Answer) → said r ≡ answer_of y z q
+    pub cube_answered : (m : Line) (y z : ℤ) → l ≡ Some m → y ≡ m.case → z ≡ m.configuration → (r : Result Counted Refusal) → said r ≡ answer_of y z m.cube
         → (xs : List ℕ) (at : ℕ) (ys : List ℕ) (i : ℕ) (over : Bool) → Answered number (choice_reply (said r)) (ChoiceEnds at) xs at ys i over
         → Answered number (reply_to number line) (LineEnds number (length line) at) xs at ys i over
-    cube_answered k c y z q g f h r s xs at ys i over (place, (end, (text, (top, room)))) =
-        let reply = cube_reply_lem k c y z q g f h r s in
-        let long = given_length k c q (sym e ∙ ap parsed g) in
+    cube_answered m y z g f h r s xs at ys i over (place, (end, (text, (top, room)))) =
+        let reply = cube_reply_lem m y z g f h r s in
+        let long = given_length m.case m.configuration m.cube (sym e ∙ ap parsed g) in
         rw reply (place, (end, (text, (top, λ n. let short = room n in (omega arith, λ _. omega arith)))))

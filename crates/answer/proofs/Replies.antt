@@ -15,8 +15,7 @@ use Rattle.tilings.specs.declared.Choice.TheVariants.{Empty, Untiled, Tiled}
 use Rattle.tilings.specs.declared.Counted.{Counted}
 use Rattle.tilings.specs.Plan.{empty, no_tiling, reach}
 use Rattle.tilings.specs.Answers.{chosen, reached}
-use Rattle.choice.specs.declared.Answer.{Answer}
-use Rattle.choice.specs.declared.Answer.TheVariants.{Chosen, Refused}
+use Rattle.std.specs.Prelude.{Result, Ok, Err}
 use Rattle.choice.specs.Choice.{said}
 use Rattle.choice.proofs.Ranges.{empty_counts, untiled_counts}
 use Rattle.put.specs.Placed.{placed}
@@ -83,10 +82,10 @@ pub with_bare : {P Q R S : Type 0} → P × (Q × (R × S)) → P × (Q × (R ×
 with_bare (p, (q, (r, s))) = (p, (q, (r, (s, bare_lines))))
 
 -- the reply of an answer
-pub made_reply : (a : Answer) (r : Counted) → a ≡ Chosen r → choice_reply (said a) ≡ answer (choice_line (reached r))
+pub made_reply : (a : Result Counted Refusal) (r : Counted) → a ≡ Ok r → choice_reply (said a) ≡ answer (choice_line (reached r))
 unfolding choice_reply
 made_reply a r e = rw e
 
-pub refused_reply : (a : Answer) (why : Refusal) (n : ℕ) → a ≡ Refused why → n ≡ refusal_number why → choice_reply (said a) ≡ refusal n
+pub refused_reply : (a : Result Counted Refusal) (why : Refusal) (n : ℕ) → a ≡ Err why → n ≡ refusal_number why → choice_reply (said a) ≡ refusal n
 unfolding choice_reply
 refused_reply a why n e f = rw (e, f)

@@ -12,9 +12,7 @@ ghost use Rattle.answer.specs.Answer.{same, input_names, fields, counts, numbers
 ghost use Rattle.answer.specs.Answer.{refused_line, choice_reply, reply_to, printed, ends};
 ghost use Rattle.answer.specs.Room.{line_room, counts_room, choice_room, names_more};
 
-use choice::Answer;
 use cube::Refusal;
-use line::Line;
 use notes::Notes;
 use tilings::{Choice, Counted};
 
@@ -119,7 +117,12 @@ fn put_choice(r: Counted, out: &mut [u8], at: usize) -> usize
 }
 
 // The answer for a cube at a line of the input.
-pub fn print_choice(answer: Answer, number: u64, out: &mut [u8], at: usize) -> Printed
+pub fn print_choice(
+    answer: Result<Counted, Refusal>,
+    number: u64,
+    out: &mut [u8],
+    at: usize,
+) -> Printed
     requires { (at + line_room ≤ length out.old) × (readings_in (said answer) ≤ 255) }
     ensures place { result.at ≡ at + length (printed number (choice_reply (said answer))) }
     ensures end { result.over ≡ ends (choice_reply (said answer)) }
@@ -127,8 +130,8 @@ pub fn print_choice(answer: Answer, number: u64, out: &mut [u8], at: usize) -> P
     ensures room { (result.at ≤ at + line_room) × (result.over ≡ false → result.at ≤ at + choice_room) }
 {
     match answer {
-        Answer::Chosen(r) => answered(put_choice(r, out, at)),
-        Answer::Refused(why) => refused(put_refused(cube::number(why), number, out, at)),
+        Ok(r) => answered(put_choice(r, out, at)),
+        Err(why) => refused(put_refused(cube::number(why), number, out, at)),
     }
 }
 
@@ -136,18 +139,8 @@ pub fn print_choice(answer: Answer, number: u64, out: &mut [u8], at: usize) -> P
 fn is_names(line: &[u8]) -> bool
     ensures { result ≡ same line.now input_names }
 {
-    let names = b"case config c0 c1 c2 c3 c4 c5 c6 c7";
-    if line.len() != 35 {
-        return false;
-    }
-    let mut i = 0;
-    while i < 35 {
-        if line[i] != names[i] {
-            return false;
-        }
-        i += 1;
-    }
-    true
+    let names: &[u8] = b"case config c0 c1 c2 c3 c4 c5 c6 c7";
+    line == names
 }
 
 // A line of the input without its newline: line 1 names the fields.
@@ -169,8 +162,13 @@ pub fn answer_line(line: &[u8], number: u64, out: &mut [u8], at: usize) -> Print
         }
         return refused(put_malformed(number, out, at));
     }
-    let Line::Given(case, configuration, q) = line::parse_line(line) else {
+    let Some(parsed) = line::parse_line(line) else {
         return refused(put_malformed(number, out, at));
     };
-    print_choice(choice::handle_cube(case, configuration, q), number, out, at)
+    print_choice(
+        choice::handle_cube(parsed.case, parsed.configuration, parsed.cube),
+        number,
+        out,
+        at,
+    )
 }

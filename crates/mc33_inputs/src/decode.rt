@@ -77,10 +77,9 @@ fn size(from: usize) -> usize
 // Where the byte with these digits is laid.
 fn by_digits(first: u8, second: u8) -> usize {
     let digits = [first, second];
-    let byte = hex_digits::pair(&digits, 0);
-    if 255 < byte {
+    let Some(byte) = hex_digits::pair(&digits, 0) else {
         return NOT;
-    }
+    };
     BYTES + byte as usize
 }
 

@@ -150,11 +150,10 @@ fn all(file: &[u8; FILE], n: usize, room: &mut [u8; ROOM]) -> Tally
     };
     let mut at = 0;
     while at < n {
-        let end = scan::find(file, at, n, b'\n');
+        let Some(end) = scan::find(file, at, n, b'\n') else {
+            return counted(tally, try_line(file, at, n, room));
+        };
         tally = counted(tally, try_line(file, at, end, room));
-        if end == n {
-            break;
-        }
         at = end + 1;
     }
     tally

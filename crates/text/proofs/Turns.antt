@@ -32,10 +32,9 @@ unfolding printed
 goes_not (answer text) n x e = cc
 goes_not (refusal why) n x e = refl
 
--- where line n begins at `at` and ends before `end`, and `put` bytes have been put
-pub record Answering (input : List ℕ) (number : ℕ) (entry out : List ℕ) (at put n end : ℕ) : Type 0 where
-  pub found : end ≡ at + index_of 10 (drop at input)
-  pub inside : end ≤ length input
+-- where line n begins at `at`, and `put` bytes have been put
+pub record Answering (input : List ℕ) (number : ℕ) (entry out : List ℕ) (at put n : ℕ) : Type 0 where
+  pub inside : at ≤ length input
   -- the output's names are longer than the input's
   pub fits : put + 16 * (2 - n) ≤ at + 32
   pub counted : n ≤ number + at
@@ -48,11 +47,9 @@ to_the_end : (input : List ℕ) (at : ℕ) → slice at (length input) input ≡
 unfolding slice
 to_the_end input at = ap (drop at) (take-length input)
 
-pub begins : (input : List ℕ) (number : ℕ) (out : List ℕ) (end : ℕ) → end ≡ 0 + index_of 10 (slice 0 (length input) input) → end ≤ length input
-    → Answering input number out out 0 0 number end
-begins input number out end e h = record {
-  found = e ∙ ap (λ (l : List ℕ). 0 + index_of 10 l) (to_the_end input 0);
-  inside = h;
+pub begins : (input : List ℕ) (number : ℕ) (out : List ℕ) → Answering input number out out 0 0 number
+begins input number out = record {
+  inside = omega arith;
   fits = omega arith;
   counted = omega arith;
   long = refl;
@@ -60,28 +57,31 @@ begins input number out end e h = record {
   so_far = refl;
 }
 
-module _ (input : List ℕ) (number : ℕ) (entry out : List ℕ) (at put n end : ℕ) (room : length input + block_room ≤ length entry)
-    (was : Answering input number entry out at put n end) where
+module _ (input : List ℕ) (number : ℕ) (entry out : List ℕ) (at put n : ℕ) (room : length input + block_room ≤ length entry)
+    (was : Answering input number entry out at put n) where
   -- the loop's end: no newline is left
-  pub last : length input ≤ end → (exit : List ℕ) (r left m : ℕ) (over : Bool)
+  pub last : index_of 10 (slice at (length input) input) ≡ length input - at → (exit : List ℕ) (r left m : ℕ) (over : Bool)
       → block (take r exit) (drop left input) m over ≡ behind (take put out) (block_from n (drop at input) [])
       → (put ≤ r) × (drop r exit ≡ drop r out)
       → (block (take r exit) (drop left input) m over ≡ block_of number input) × (drop r exit ≡ drop r entry)
   last h exit r left m over e kept =
-      let plain : Plain (drop at input) = let f = was.found in let g = was.inside in omega (arith, length-drop at input) in (
+      let plain : Plain (drop at input) = sym (ap (index_of 10) (to_the_end input at)) ∙ h ∙ sym (length-drop at input) in (
         e ∙ ap (behind (take put out)) (sym (part_line n (drop at input) plain)) ∙ sym was.so_far,
         kept.1 ∙ later out entry put r kept.0 was.rest,
       )
 
-  module _ (more : end < length input) (line : List ℕ) (cut : line ≡ take (end - at) (drop at input)) (r : ℕ) (exit : List ℕ)
+  module _ (end : ℕ) (at_newline : end ≡ at + index_of 10 (slice at (length input) input)) (more : end < length input) (line : List ℕ) (cut : line ≡ take (end - at) (drop at input)) (r : ℕ) (exit : List ℕ)
       (place : r ≡ put + length (printed n (reply_to n line))) (is : exit ≡ placed out put (printed n (reply_to n line))) where
+    found : end ≡ at + index_of 10 (drop at input)
+    found = at_newline ∙ ap (λ (l : List ℕ). at + index_of 10 l) (to_the_end input at)
+
     within : put ≤ length out
-    within = let f = was.found in let g = was.inside in let h = was.fits in let l = was.long in omega arith
+    within = let f = found in let g = was.inside in let h = was.fits in let l = was.long in omega arith
 
     rest_of : block_of n (drop at input) ≡ after (reply_to n line) n (block_of (n + 1) (drop (end + 1) input))
     rest_of =
         let k : ℕ = index_of 10 (drop at input) in
-        let f : end ≡ at + k = was.found in
+        let f : end ≡ at + k = found in
         let to : k ≡ end - at = omega arith in
         let on : at + suc k ≡ end + 1 = omega arith in
         next_line n (drop at input) (omega (arith, length-drop at input))
@@ -104,18 +104,17 @@ module _ (input : List ℕ) (number : ℕ) (entry out : List ℕ) (at put n end 
 
     -- a line was answered, and the next is found
     pub turn : r ≤ put + line_room → (r ≤ put + length line + names_more) × (1 < n → r ≤ put + length line) → ends (reply_to n line) ≡ false
-        → (after : ℕ) → after ≡ end + 1 + index_of 10 (slice (end + 1) (length input) input) → after ≤ length input
-        → Answering input number entry exit (end + 1) r (n + 1) after
-    turn wide short e after found inside =
+        → Answering input number entry exit (end + 1) r (n + 1)
+    turn wide short e =
         let x : Block = block_of (n + 1) (drop (end + 1) input) in
-        let f = was.found in
+        let f = found in
+        let b = was.inside in
         let g = was.fits in
         let k = was.counted in
         let l = was.long in
         let cut_length : length line ≤ end - at = omega (arith, ap length cut, length-take-le (end - at) (drop at input) (omega (arith, length-drop at input))) in
         record {
-          found = found ∙ ap (λ (l : List ℕ). end + 1 + index_of 10 l) (to_the_end input (end + 1));
-          inside = inside;
+          inside = omega arith;
           fits = cases (leb n 1) (λ first. let h = leb-true n 1 first in let names = short.0 in omega arith) (λ later. let h = short.1 (leb-false n 1 later) in omega arith);
           counted = omega arith;
           long = ap length is ∙ placed_length out put (printed n (reply_to n line)) (omega arith) ∙ was.long;

@@ -53,8 +53,7 @@ pub fn answer_block(input: &[u8], number: u64, out: &mut [u8]) -> Answered
     let mut at = 0;
     let mut put = 0;
     let mut n = number;
-    let mut end = scan::find(input, at, input.len(), b'\n');
-    while end < input.len() {
+    while let Some(end) = scan::find(input, at, input.len(), b'\n') {
         let said = answer::answer_line(&input[at..end], n, out, put);
         put = said.at;
         if said.over {
@@ -67,7 +66,6 @@ pub fn answer_block(input: &[u8], number: u64, out: &mut [u8]) -> Answered
         }
         at = end + 1;
         n += 1;
-        end = scan::find(input, at, input.len(), b'\n');
     }
     part_line(input, at, n, out, put)
 }

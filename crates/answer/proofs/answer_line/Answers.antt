@@ -53,8 +53,8 @@ pub returns : goal.returns
 returns c =
     let put = c.print_choice.ensures in
     let all =
-    cube_answered _ _ c.if-number-le1.false _ c.parse_line.ensures.line _ _ _ _ _
-    c.in-Given.is
+    cube_answered _ _ c.if-number-le1.false _ c.parse_line.ensures.line _ _ _
+    c.in-Some.is
     (to_z-of_z w8 _ (search rules))
     (to_z-of_z w8 _ (search rules))
     c.handle_cube.result
