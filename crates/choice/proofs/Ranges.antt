@@ -4,11 +4,11 @@ use mathlib.Core.Path.{◌≡◌, refl, subst, sym}
 use mathlib.Core.Bool.{Bool, true, false, cond, ◌&&◌, ◌||◌}
 use mathlib.Core.List.{List, [], ◌∷◌, map, foldr}
 use Prim.Native.Nat.{ℕ, zero, suc, ◌≤◌, ◌<◌}
-use native.Mathlib.Nat.{suc-ne-zero, le_trans}
+use native.Mathlib.Nat.{suc-ne-zero, le_trans, lt_of_not-le, not-suc-le-zero}
 use native.Mathlib.Omega.{arith}
 use lib.Dec.{T, leb, ltb, eqb, eqb→eq, leb→le, ltb→lt, le→leb, lit≤}
 use lib.IntN.{ℤ, pos, negsuc}
-use lib.ListN.{get_or, length}
+use lib.ListN.{get_or, get_or-eq_default, length}
 use lib.Ieee.Fits.{and_i, and_l, and_r}
 use Rattle.cube.specs.declared.Cube.{Cube}
 use Rattle.cube.specs.Corners.{all_finite}
@@ -28,7 +28,6 @@ use Rattle.family_13.specs.Tables.{TEST_13, SUB_CONFIG_13}
 use Rattle.family_13.specs.Plans.{parts13, last_from, tile13, part13, plan13}
 use Rattle.families.specs.Tables.{TEST_3, TEST_4, TEST_6, TEST_7}
 use Rattle.families.specs.Plans.{plan3, plan4, plan6, part7, plan7, plans, plan_of}
-use Rattle.families.proofs.Families.{of_a_case}
 use Rattle.choice.specs.Choice.{is_case, is_configuration, nat_of, refusal_of, choice_of, Said, made, refused, readings_in, answer_of}
 use Rattle.choice.specs.Inner.{hands_on}
 use Rattle.choice.specs.Figures.{Figures, figure, figures, figures_of, figures_for, within}
@@ -139,8 +138,13 @@ all_fit : T (all_under 15 (λ case. all_under (get_or configurations case 0) (fi
 unfolding fits_at fits hands_on asks_none asks_once in_ranges placed figures holds_minus1 tilings_of configurations columns_of has_centre plan_of plans plan3 plan4 plan6 part7 plan7 two_faces plan10 plan12 parts13 last_from tile13 part13 plan13 ask_in_turn TEST_3 TEST_4 TEST_6 TEST_7 TEST_10 TEST_12 TEST_13 SUB_CONFIG_13
 all_fit = tt
 
+-- past case 14 there are no configurations
+of_a_case : (case c : ℕ) → c < get_or configurations case 0 → case < 15
+unfolding configurations
+of_a_case case c h = lt_of_not-le (λ (l : 15 ≤ case). not-suc-le-zero (subst (λ (n : ℕ). c < n) (get_or-eq_default configurations 0 l) h))
+
 plan_fits : (case c : ℕ) → c < get_or configurations case 0 → T (fits_at case c)
-plan_fits case c l = under (get_or configurations case 0) (fits_at case) (under 15 (λ k. all_under (get_or configurations k 0) (fits_at k)) all_fit case (of_a_case l)) c l
+plan_fits case c l = under (get_or configurations case 0) (fits_at case) (under 15 (λ k. all_under (get_or configurations k 0) (fits_at k)) all_fit case (of_a_case case c l)) c l
 
 nothing_fits : (case : ℕ) → T (eqb case 0) → T (fits_at case 0)
 unfolding fits_at plan_of plans fits hands_on asks_once in_ranges placed figures

@@ -69,6 +69,7 @@ fn family_of(case: i8, configuration: i8) -> Result<Family, Refusal>
 
 // The choice: refusal 1, 2 or 3 in this order, or what document 01 chooses. Document 02's figures, how many readings a case
 // makes, are part of `ranges`.
+#[tactic(auto, using(crate::proofs::Starred::starred, crate::proofs::Inner::inner_numbers, crate::proofs::Unmatched::none_or_all_lem))]
 pub fn handle_cube(case: i8, configuration: i8, q: Cube) -> Result<Counted, Refusal>
     ensures choice { said result ≡ answer_of case configuration q }
     ensures ranges { T (said_in_ranges (nat_of case) (said result)) }

@@ -7,10 +7,7 @@ use Rattle.cube.specs.declared.Cube.{Cube}
 use Rattle.choice.specs.Choice.{nat_of, Said, answer_of}
 use Rattle.choice.specs.Ranges.{said_in_ranges}
 use Rattle.choice.proofs.Families.{one_of_its, by_refusal, by_corners, by_nothing, by_plan_lem}
-use Rattle.choice.proofs.Inner.{inner_numbers}
 use Rattle.choice.proofs.Ranges.{ranges}
-use Rattle.choice.proofs.Starred.{starred}
-use Rattle.choice.proofs.Unmatched.{none_or_all_lem}
 use Rattle.choice.proofs.handle_cube.Goals as goal
 
 in_ranges : (x y : ℤ) (q : Cube) (r : Said) → r ≡ answer_of x y q → T (said_in_ranges (nat_of x) r)
@@ -28,29 +25,11 @@ returns-in_err-family-clause-choice c = search (by_refusal, c.in_err-family.was,
 pub returns-in_err-family-clause-ranges : goal.returns-in_err-family-clause-ranges
 returns-in_err-family-clause-ranges c = in_ranges _ _ _ _ (returns-in_err-family-clause-choice c)
 
-pub returns-in_err-family-clause-starred : goal.returns-in_err-family-clause-starred
-returns-in_err-family-clause-starred c = starred
-
-pub returns-in_err-family-clause-inner : goal.returns-in_err-family-clause-inner
-returns-in_err-family-clause-inner c = inner_numbers
-
-pub returns-in_err-family-clause-unmatched : goal.returns-in_err-family-clause-unmatched
-returns-in_err-family-clause-unmatched c = none_or_all_lem
-
 pub returns-then-not-all_finite-clause-choice : goal.returns-then-not-all_finite-clause-choice
 returns-then-not-all_finite-clause-choice c = search (by_corners, c.in_ok-family.was)
 
 pub returns-then-not-all_finite-clause-ranges : goal.returns-then-not-all_finite-clause-ranges
 returns-then-not-all_finite-clause-ranges c = in_ranges _ _ _ _ (returns-then-not-all_finite-clause-choice c)
-
-pub returns-then-not-all_finite-clause-starred : goal.returns-then-not-all_finite-clause-starred
-returns-then-not-all_finite-clause-starred c = starred
-
-pub returns-then-not-all_finite-clause-inner : goal.returns-then-not-all_finite-clause-inner
-returns-then-not-all_finite-clause-inner c = inner_numbers
-
-pub returns-then-not-all_finite-clause-unmatched : goal.returns-then-not-all_finite-clause-unmatched
-returns-then-not-all_finite-clause-unmatched c = none_or_all_lem
 
 pub returns-in-Nothing-clause-choice : goal.returns-in-Nothing-clause-choice
 returns-in-Nothing-clause-choice c = search (by_nothing, c.in_ok-family.was)
@@ -58,41 +37,14 @@ returns-in-Nothing-clause-choice c = search (by_nothing, c.in_ok-family.was)
 pub returns-in-Nothing-clause-ranges : goal.returns-in-Nothing-clause-ranges
 returns-in-Nothing-clause-ranges c = in_ranges _ _ _ _ (returns-in-Nothing-clause-choice c)
 
-pub returns-in-Nothing-clause-starred : goal.returns-in-Nothing-clause-starred
-returns-in-Nothing-clause-starred c = starred
-
-pub returns-in-Nothing-clause-inner : goal.returns-in-Nothing-clause-inner
-returns-in-Nothing-clause-inner c = inner_numbers
-
-pub returns-in-Nothing-clause-unmatched : goal.returns-in-Nothing-clause-unmatched
-returns-in-Nothing-clause-unmatched c = none_or_all_lem
-
 pub returns-then-asks-clause-choice : goal.returns-then-asks-clause-choice
 returns-then-asks-clause-choice c = search (by_plan_lem, c.in_ok-family.was)
 
 pub returns-then-asks-clause-ranges : goal.returns-then-asks-clause-ranges
 returns-then-asks-clause-ranges c = in_ranges _ _ _ _ (returns-then-asks-clause-choice c)
 
-pub returns-then-asks-clause-starred : goal.returns-then-asks-clause-starred
-returns-then-asks-clause-starred c = starred
-
-pub returns-then-asks-clause-inner : goal.returns-then-asks-clause-inner
-returns-then-asks-clause-inner c = inner_numbers
-
-pub returns-then-asks-clause-unmatched : goal.returns-then-asks-clause-unmatched
-returns-then-asks-clause-unmatched c = none_or_all_lem
-
 pub returns-else-asks-clause-choice : goal.returns-else-asks-clause-choice
 returns-else-asks-clause-choice c = search (by_plan_lem, c.in_ok-family.was)
 
 pub returns-else-asks-clause-ranges : goal.returns-else-asks-clause-ranges
 returns-else-asks-clause-ranges c = in_ranges _ _ _ _ (returns-else-asks-clause-choice c)
-
-pub returns-else-asks-clause-starred : goal.returns-else-asks-clause-starred
-returns-else-asks-clause-starred c = starred
-
-pub returns-else-asks-clause-inner : goal.returns-else-asks-clause-inner
-returns-else-asks-clause-inner c = inner_numbers
-
-pub returns-else-asks-clause-unmatched : goal.returns-else-asks-clause-unmatched
-returns-else-asks-clause-unmatched c = none_or_all_lem
