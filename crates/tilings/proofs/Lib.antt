@@ -1,4 +1,3 @@
-pub mod Bits
 pub mod Columns
 mod Controls
 pub mod Settling

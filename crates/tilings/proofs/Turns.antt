@@ -1,14 +1,12 @@
--- Faces asked in turn: where such a plan leads, and three answers as one number. Assumes nothing.
+-- Faces asked in turn: where such a plan leads. Assumes nothing.
 use mathlib.Core.Path.{◌≡◌, sym, ap, ◌∙◌}
 use mathlib.Core.Bool.{Bool, true, false, cond}
 use mathlib.Core.List.{List, [], ◌∷◌, map}
-use Prim.Native.Nat.{ℕ, ◌+◌, ◌*◌, ◌≤◌}
+use Prim.Native.Nat.{ℕ, ◌+◌, ◌*◌}
 use native.Mathlib.Omega.{arith}
 use lib.IntN.{ℤ}
 use lib.ListN.{length}
-use Rattle.cube.specs.declared.Cube.{Cube}
 use Rattle.cube.specs.Bits.{bit_of, number_of}
-use Rattle.face.specs.Face.{face_of}
 use Rattle.notes.specs.declared.Notes.{Notes}
 use Rattle.notes.specs.Notes.{tests_of, added}
 use Rattle.notes.proofs.Sums.{added_none, test_and_tests}
@@ -29,11 +27,6 @@ module _ (w : Answers) where
           → cond b x y ≡ run w (next (bit_of b + 2 * k)) m
       by_answer true x y next k m e f = e
       by_answer false x y next k m e f = f ∙ ap (λ (j : ℕ). run w (next j) m) (omega arith)
-
--- three answers as one number
-pub three_answers : (q : Cube) (x y z : ℤ) (b0 b1 b2 : Bool) → b0 ≡ face_of q x → b1 ≡ face_of q y → b2 ≡ face_of q z
-    → (r : ℕ) → (r ≤ 7) × (r ≡ number_of (b0 ∷ b1 ∷ b2 ∷ [])) → (r ≤ 7) × (r ≡ number_of (map (face_of q) (x ∷ y ∷ z ∷ [])))
-three_answers q x y z b0 b1 b2 e f g r (l, h) = (l, h ∙ rw (e, f, g))
 
 -- the tiling and the column that a plan comes to first, 0 where it has none
 abbrev pub code_of : Plan → ℕ

@@ -19,8 +19,7 @@ use interior::{AmbiguousFace, Side, Sight};
 use notes::Notes;
 
 // `Untiled` has the configuration and the sub-configuration; `Tiled` the code, row and column, and whether the
-// tiling is drawn with the centre. The code stays a number: any is answered for by `tile`, `plain`, `settle` and
-// `has_centre`, and a type of the 38 codes would ask more of their callers.
+// tiling is drawn with the centre.
 #[derive(Clone, Copy)]
 pub enum Choice {
     Empty,
@@ -35,6 +34,8 @@ pub struct Counted {
     pub notes: Notes,
 }
 
+// The codes stay numbers: `tile`, `plain`, `settle` and `has_centre` answer for any u8, and a type of the 38 codes would
+// ask more of their callers.
 pub const TILING_1: u8 = 1;
 
 pub const TILING_2: u8 = 2;
@@ -145,7 +146,7 @@ pub fn untiled(c: u8, sub: u8, notes: Notes) -> Counted
 {
     Counted {
         choice: Choice::Untiled(c, sub),
-        notes: notes,
+        notes,
     }
 }
 
@@ -155,7 +156,7 @@ pub fn tile(code: u8, row: u8, column: u8, notes: Notes) -> Counted
 {
     Counted {
         choice: Choice::Tiled(code, row, column, has_centre(code)),
-        notes: notes,
+        notes,
     }
 }
 
@@ -167,6 +168,7 @@ pub fn plain(code: u8, row: u8, tests: u16) -> Counted
 }
 
 // Where an interior test leads after so many face tests: to a tiling and its row by a yes, to another by a no.
+#[tactic(auto, unfolding(crate::specs::Plan::settled))]
 pub fn settle(found: Sight, tests: u16, yes: u8, row: u8, no: u8, other: u8) -> Counted
     requires { tests + counted found ≤ 255 }
     ensures { reached result ≡ settled found (reach (tiling yes row 0 (has_centre yes))) (reach (tiling no other 0 (has_centre no))) (tests_of tests) }
