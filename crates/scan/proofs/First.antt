@@ -2,14 +2,8 @@
 use Rattle.std.proofs.Common.{◌≡◌, ℕ, zero, suc, ◌+◌, ◌-◌, ◌≤◌, ◌<◌, Bool, true, false, List, [], ◌∷◌, Option, None, Some, MatchOption, length, get_or, take, drop, eqb, refl, sym, ap, ◌∙◌, arith, length-take, length-drop}
 use Rattle.std.specs.Option.{IsSomeAnd}
 use Rattle.memchr.specs.Find.{IsFirstByte, is_byte}
-use Rattle.std.proofs.Math.Seq.{take-nil}
+use Rattle.std.proofs.lemmas.List.{drop-take}
 use Rattle.scan.specs.Bytes.{index_after, index_of, slice}
-
-pub drop_take : (m n : ℕ) (l : List ℕ) → drop m (take n l) ≡ take (n - m) (drop m l)
-drop_take zero n l = let e : n - 0 ≡ n = omega arith in ap (λ k. take k l) (sym e)
-drop_take (suc m) n [] = rw (take-nil n) (sym (take-nil (n - suc m)))
-drop_take (suc m) zero (x ∷ l) = let e : 0 - suc m ≡ 0 = omega arith in ap (λ k. take k (drop m l)) (sym e)
-drop_take (suc m) (suc n) (x ∷ l) = let e : suc n - suc m ≡ n - m = omega arith in rw e (drop_take m n l)
 
 not_true : (t : Bool) → (t ≡ true → ⊥) → t ≡ false
 not_true true h = absurd (h refl)
@@ -31,19 +25,22 @@ module _ (b : ℕ) where
       rw (not_true (eqb x b) (f 0 (omega arith))) (ap suc (found_nowhere xs (λ j l. f (suc j) (omega arith))))
 
 -- a place in the part, and the place in all of it
+sliced : (from to : ℕ) (bytes : List ℕ) → from ≤ to → slice from to bytes ≡ take (to - from) (drop from bytes)
+unfolding slice
+sliced from to bytes l = let e : from + (to - from) ≡ to = omega arith in ap (λ k. drop from (take k bytes)) (sym e) ∙ drop-take from (to - from) bytes
+
 module _ (b from to : ℕ) (bytes : List ℕ) where
   abbrev pub Placed : Option ℕ → Type 0
   Placed s = MatchOption s (index_of b (slice from to bytes) ≡ to - from) (λ k. k ≡ from + index_of b (slice from to bytes))
 
   pub place_of_first : (r s : Option ℕ) → from ≤ to → to ≤ length bytes → IsFirstByte (is_byte b) (take (to - from) (drop from bytes)) r
       → MatchOption r (s ≡ None) (λ x. IsSomeAnd s (λ k. k ≡ from + x)) → Placed s
-  unfolding slice
   place_of_first None s l m h e =
       let xs : List ℕ = take (to - from) (drop from bytes) in
       let n : length xs ≡ index_of b xs = found_nowhere b xs (λ j l. h j (omega arith) l) in
       let size : length xs ≡ to - from = simp (length-take, length-drop) (omega arith) in
-      rw (e, drop_take from to bytes) (sym n ∙ size)
+      rw (e, sliced from to bytes l) (sym n ∙ size)
   place_of_first (Some x) None l m h e = absurd e
   place_of_first (Some x) (Some k) l m h e =
-      rw (drop_take from to bytes)
+      rw (sliced from to bytes l)
       (e ∙ ap (λ (n : ℕ). from + n) (found_at b (take (to - from) (drop from bytes)) x h.0.high (λ j l. h.0.before j (omega arith) l) h.1))

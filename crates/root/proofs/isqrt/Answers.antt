@@ -1,13 +1,7 @@
 -- `root::isqrt` finds the whole root. Assumes nothing.
 use native.Mathlib.Omega.{arith}
-use Rattle.root.proofs.DigitsLeft.{none_left, tried_square, digit_found, as_many}
+use Rattle.root.proofs.DigitsLeft.{none_left, digit_found, as_many}
 use Rattle.root.proofs.isqrt.Goals as goal
-
-pub loop-init : goal.loop-init
-loop-init c = as_many (omega arith) c.requires
-
-pub overflow_mul-next : goal.overflow_mul-next
-overflow_mul-next c = record { fits = tried_square _ (omega (arith, c.loop.invariant.small)) }
 
 pub loop-preserved : goal.loop-preserved
 loop-preserved c = as_many (omega arith) (digit_found _ _ _ _ c.loop.invariant _ (omega arith) (grind arith))

@@ -1,16 +1,8 @@
 -- `root::positive` writes the root of a positive value by its fields.
 use mathlib.Core.Path.{◌∙◌}
 use native.Mathlib.Omega.{arith}
-use lib.Dec.{lit≤, lit<}
-use Rattle.root.proofs.Scaling.{enough_left}
 use Rattle.root.proofs.Patterns.{subnormal_bits, normal_bits}
-use Prim.Native.Nat.{◌*◌, ◌<◌}
 use Rattle.root.proofs.positive.Goals as goal
-
-pub scaled-requires : goal.scaled-requires
-scaled-requires c =
-    let h : 0 < 2 * c.args.digits = omega arith in
-    (h, (omega arith, (lit< tt, enough_left _ _ h (lit≤ tt))))
 
 pub returns-then-field-eq0 : goal.returns-then-field-eq0
 returns-then-field-eq0 c = c.scaled.ensures ∙ subnormal_bits _ _ c.if-field-eq0.true c.requires.1.0 c.requires.1.1

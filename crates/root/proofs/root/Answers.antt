@@ -9,7 +9,7 @@ use Rattle.root.proofs.NearestValue.{root_nearest}
 use Rattle.root.specs.Special.{SpecialRoots}
 use Rattle.root.proofs.SpecialValues.{special_roots}
 use Rattle.root.proofs.RootFits.{root_fits}
-use Rattle.root.proofs.NotBelowZero.{passes_real, fails_none}
+use Rattle.root.proofs.NotBelowZero.{fails_none}
 use Rattle.root.proofs.root.Goals as goal
 
 -- the root by bit patterns, as a float
@@ -20,9 +20,6 @@ from_bits x t = ap (λ (y : Float). of_bits binary32 (to_bits binary32 (root_of 
 -- what the contract says of the definition's root
 of-root : (x r : Float) → T (fits binary32 x) → r ≡ root_of x → (r ≡ root_of x) × (NearestRoot x r × SpecialRoots x r)
 of-root x r t e = (e, (subst (λ (y : Float). NearestRoot x y) (sym e) (root_nearest x t), special_roots x r e))
-
-pub float_to_bits-x : goal.float_to_bits-x
-float_to_bits-x c = passes_real _ c.if-x.true
 
 pub returns-then-x : goal.returns-then-x
 returns-then-x c =

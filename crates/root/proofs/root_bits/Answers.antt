@@ -1,8 +1,6 @@
 -- `root::root_bits` is the definition's root at every pattern, the special ones named.
-use mathlib.Core.Path.{◌≡◌, ap, ◌∙◌}
+use mathlib.Core.Path.{◌≡◌}
 use mathlib.Core.Logic.{inl, inr}
-use native.Mathlib.Nat.{div-add-mod'}
-use native.Mathlib.Omega.{arith}
 use Rattle.root.specs.Root.{root_bits}
 use Rattle.root.proofs.Patterns.{own_root}
 use Rattle.root.proofs.SpecialValues.{told}
@@ -19,13 +17,4 @@ returns-then-bits-eq0 c =
       | then-bits-eq0-via-else-bits-eq0+else-bits-eq2147483648+then-bits-eq2139095040 w ↦ own_root _ (inr (inr w.if-bits-eq2139095040.true))
     ] in
     let t = told b b e in
-    record { pattern = t.0; special = t.1 }
-
-pub positive-requires : goal.positive-requires
-positive-requires c = omega (arith, c.if-bits-eq2139095040.false, c.if-bits-eq0.false)
-
-pub returns : goal.returns
-returns c =
-    let b = c.args.bits in
-    let t = told b c.positive.result (c.positive.ensures ∙ ap root_bits (div-add-mod' b 0x80_0000)) in
     record { pattern = t.0; special = t.1 }

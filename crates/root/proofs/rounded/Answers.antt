@@ -9,15 +9,6 @@ overflow_mul-q c = omega (arith, root_le _ c.args.k _ c.requires.0 c.requires.1.
 pub overflow_add-q : goal.overflow_add-q
 overflow_add-q c = omega (arith, root_le _ c.args.k _ c.requires.0 c.requires.1.0 c.isqrt-q.ensures, root_below _ c.args.k _ c.requires.0 c.requires.1.0 c.isqrt-q.ensures)
 
-pub overflow_cast-result : goal.overflow_cast-result
-overflow_cast-result c = omega (arith, root_below _ c.args.k _ c.requires.0 c.requires.1.0 c.isqrt-q.ensures)
-
-pub overflow_add-result : goal.overflow_add-result
-overflow_add-result c = omega (arith, root_below _ c.args.k _ c.requires.0 c.requires.1.0 c.isqrt-q.ensures)
-
-pub overflow_add-result-then-q-n : goal.overflow_add-result-then-q-n
-overflow_add-result-then-q-n c = omega (arith, root_below _ c.args.k _ c.requires.0 c.requires.1.0 c.isqrt-q.ensures)
-
 pub returns-then-q-n : goal.returns-then-q-n
 returns-then-q-n c = moves_bits _ _ _ c.requires.0 c.requires.1.0 c.requires.1.1 c.isqrt-q.ensures c.if-q-n.true
 
