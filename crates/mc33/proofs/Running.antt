@@ -1,20 +1,33 @@
 -- The turns of a run: what is handed to the writes is what the blocks that came write, one after the other, and so the program's run of the whole.
 -- Assumes nothing.
 use mathlib.Core.Path.{◌≡◌, refl, sym, ap, ◌∙◌, subst}
-use mathlib.Core.Bool.{Bool, true, false, true≢false, cond}
+use mathlib.Core.Bool.{Bool, true, false, cond}
 use mathlib.Core.List.{List, [], ◌∷◌, ◌++◌, append-nil, append_assoc, foldr}
 use mathlib.Core.Logic.{inl, inr}
-use Prim.Native.Nat.{ℕ, suc, ◌+◌, ◌-◌, ◌<◌}
-use native.Mathlib.Omega.{arith}
-use borrow.Author.Tests.{not-true, not-false}
+use Prim.Native.Nat.{ℕ, ◌+◌, ◌≤◌}
+use Rattle.std.proofs.Math.Bridge.{le_prop}
 use lib.ListN.{take}
 use Rattle.text.specs.Run.{at_end, run}
 use Rattle.text.specs.Block.{Block, block_of, run_blocks}
 use Rattle.text.proofs.Joins.{blocks_join}
+use Rattle.std.specs.Prelude.{Option, Some, None, Ok, Err}
 use Rattle.mc33.specs.declared.Failure.{Failure}
-use Rattle.mc33.specs.declared.State.{State}
-use Rattle.mc33.specs.Kept.{empty, failure, Kept, TurnedBy, Turned}
-use Rattle.mc33.specs.Runs.{most_turns, handed, Ran, begun, turned, Finished}
+use Rattle.mc33.specs.declared.part.Part.{Part}
+use Rattle.mc33.specs.Kept.{State, Left, TurnedBy, Turned}
+use Rattle.mc33.specs.Runs.{most_turns, handed, Ran, begun, turned, Finished, going as going_of}
+
+Err≢Ok : {r : State} {why : Failure} {o : Option Part} → r ≡ Err why → r ≡ Ok o → ⊥
+Err≢Ok e f = cc
+
+None≢Some : {r : State} {t : Part} → r ≡ Ok None → r ≡ Ok (Some t) → ⊥
+None≢Some e f = cc
+
+-- the first part line is empty, and its number is 1
+begin_at : (r : State) (s t : Part) (buf : List ℕ) → s.have ≡ 0 → s.number ≡ 1 → r ≡ Ok (Some s) → r ≡ Ok (Some t) → (more : List (List ℕ))
+    → run_blocks 1 [] more ≡ run_blocks t.number (take t.have buf) more
+begin_at r s t buf h n d e more =
+    let same : s ≡ t = cc in
+    subst (λ (u : Part). run_blocks 1 [] more ≡ run_blocks u.number (take u.have buf) more) same (ap (λ (m : ℕ). run_blocks 1 (take m buf) more) (sym h) ∙ ap (λ (m : ℕ). run_blocks m (take s.have buf) more) (sym n))
 
 -- these blocks came; what was handed to the writes, and then what the later blocks write, is what all the blocks write
 abbrev Joined : List ℕ → List ℕ → ℕ → List ℕ → List (List ℕ) → Type 0
@@ -28,18 +41,6 @@ one_more (input ∷ inputs) came more e =
     ap (λ (w : List ℕ). input ++ w) (one_more inputs (foldr ◌++◌ [] inputs) more refl)
     ∙ sym (append_assoc input (foldr ◌++◌ [] inputs) more)
     ∙ ap (λ (w : List ℕ). w ++ more) e
-
-failed_stops : (r : State) (why : Failure) → r ≡ failure why → r.going ≡ true → ⊥
-failed_stops r why e g = true≢false (sym g ∙ ap (λ (s : State). s.going) e)
-
-abbrev well : Failure → Bool
-well Failure.Nothing = true
-well Failure.Read = false
-well Failure.Count = false
-well Failure.Write = false
-
-failed_told : (r : State) (why : Failure) → well why ≡ false → r ≡ failure why → r.failed ≡ Failure.Nothing → ⊥
-failed_told r why o e w = true≢false (sym (ap well w) ∙ ap (λ (s : State). well s.failed) e ∙ o)
 
 -- what a block that is not the end writes, and what the later blocks write behind it
 block_more : (n : ℕ) (part more next : List ℕ) (number : ℕ) (later : List (List ℕ)) → (block_of n (part ++ more)).over ≡ false
@@ -64,16 +65,17 @@ no_blocks n part = refl
 
 module _ (came written : List ℕ) (number : ℕ) (part : List ℕ) (inputs : List (List ℕ)) (j : Joined came written number part inputs) where
   -- a block came that was not the end
-  joined_more : (more : List ℕ) (r : State) (buf out : List ℕ) → Kept r buf out (block_of number (part ++ more)) → r.going ≡ true
-      → Joined (came ++ more) (written ++ (block_of number (part ++ more)).written) r.number (take r.have buf) (inputs ++ (more ∷ []))
-  joined_more more r buf out k g =
+  joined_more : (more next : List ℕ) (line : ℕ) → (block_of number (part ++ more)).over ≡ false → next ≡ (block_of number (part ++ more)).left
+      → line ≡ (block_of number (part ++ more)).number
+      → Joined (came ++ more) (written ++ (block_of number (part ++ more)).written) line next (inputs ++ (more ∷ []))
+  joined_more more next line o l k =
       let x : Block = block_of number (part ++ more) in (
         one_more inputs came more j.0,
         λ later.
             ap (run_blocks 1 []) (append_assoc inputs (more ∷ []) later)
             ∙ j.1 (more ∷ later)
-            ∙ ap (λ (w : List ℕ). written ++ w) (block_more number part more (take r.have buf) r.number later (not-true x.over (sym k.goes ∙ g)) (k.number g) (k.left g))
-            ∙ sym (append_assoc written x.written (run_blocks r.number (take r.have buf) later)),
+            ∙ ap (λ (w : List ℕ). written ++ w) (block_more number part more next line later o k l)
+            ∙ sym (append_assoc written x.written (run_blocks line next later)),
       )
 
   -- a block came that was the end
@@ -93,57 +95,62 @@ module _ (came written : List ℕ) (number : ℕ) (part : List ℕ) (inputs : Li
       ∙ blocks_join inputs
       ∙ ap run (j.0 ∙ sym (append-nil came))
 
-abbrev Going : List ℕ → List ℕ → State → List ℕ → Type 0
+abbrev Going : List ℕ → List ℕ → Part → List ℕ → Type 0
 Going came written s buf = (inputs : List (List ℕ)) × Joined came written s.number (take s.have buf) inputs
 
-going_on : (more : List ℕ) (came written : List ℕ) (s r : State) (xs buf out : List ℕ) → Going came written s xs → TurnedBy more s xs r buf out → r.going ≡ true
-    → Going (came ++ more) (written ++ handed s.number (take s.have xs) more) r buf
-going_on more came written s r xs buf out j (inl e) g = absurd (failed_stops r Failure.Read e g)
-going_on [] came written s r xs buf out j (inr (inl e)) g = absurd (failed_stops r Failure.Write e g)
-going_on [] came written s r xs buf out j (inr (inr e)) g = absurd (true≢false (sym g ∙ ap (λ (s : State). s.going) e.0))
-going_on (b ∷ bs) came written s r xs buf out j (inr (inl e)) g = absurd (failed_stops r Failure.Count e.1 g)
-going_on (b ∷ bs) came written s r xs buf out j (inr (inr (h, inl e))) g = absurd (failed_stops r Failure.Write e g)
-going_on (b ∷ bs) came written s r xs buf out j (inr (inr (h, inr k))) g =
-    (j.0 ++ ((b ∷ bs) ∷ []), joined_more came written s.number (take s.have xs) j.0 j.1 (b ∷ bs) r buf out k g)
+going_on : (more : List ℕ) (came written : List ℕ) (s t : Part) (r : State) (xs buf out : List ℕ) → Going came written s xs → TurnedBy more s xs r buf out
+    → r ≡ Ok (Some t) → Going (came ++ more) (written ++ handed s.number (take s.have xs) more) t buf
+going_on more came written s t r xs buf out j (inl e) g = absurd (Err≢Ok e g)
+going_on [] came written s t r xs buf out j (inr (inl e)) g = absurd (Err≢Ok e g)
+going_on [] came written s t r xs buf out j (inr (inr e)) g = absurd (None≢Some e.0 g)
+going_on (b ∷ bs) came written s t r xs buf out j (inr (inl e)) g = absurd (Err≢Ok e.1 g)
+going_on (b ∷ bs) came written s t r xs buf out j (inr (inr (h, inl e))) g = absurd (Err≢Ok e g)
+going_on (b ∷ bs) came written s t r xs buf out j (inr (inr (h, inr k))) g =
+    let left = subst (λ (o : State). Left o buf (block_of s.number (take s.have xs ++ (b ∷ bs)))) g k.left in
+    (j.0 ++ ((b ∷ bs) ∷ []), joined_more came written s.number (take s.have xs) j.0 j.1 (b ∷ bs) (take t.have buf) t.number left.0 left.1.0 left.1.1)
 
-going : (k : ℕ) (came written : List ℕ) (s : State) (buf : List ℕ) → Ran k came written s buf → s.going ≡ true → Going came written s buf
-going k came written s buf begun g = ([], (refl, λ more. refl))
-going k came written r buf (turned {k = k₀} {came = came₀} {written = written₀} {s = s} {xs = xs} out more ran h t) g =
-    going_on more came₀ written₀ s r xs buf out (going k₀ came₀ written₀ s xs ran h) t g
+going : {k : ℕ} {came written : List ℕ} {r : State} {buf : List ℕ} → Ran k came written r buf → (t : Part) → r ≡ Ok (Some t) → Going came written t buf
+going (begun {s = s} {buf = buf} h n) t e = ([], (refl, λ more. begin_at _ s t buf h n refl e more))
+going {buf = buf} (turned {came = came} {written = written} {s = s} {r = r} {xs = xs} out more ran w) t e =
+    going_on more came written s t r xs buf out (going ran s refl) w e
 
-stopping : (more : List ℕ) (came written : List ℕ) (s r : State) (xs buf out : List ℕ) → Going came written s xs → TurnedBy more s xs r buf out
-    → r.going ≡ false → r.failed ≡ Failure.Nothing → written ++ handed s.number (take s.have xs) more ≡ run (came ++ more)
-stopping more came written s r xs buf out j (inl e) g w = absurd (failed_told r Failure.Read refl e w)
-stopping [] came written s r xs buf out j (inr (inl e)) g w = absurd (failed_told r Failure.Write refl e w)
-stopping [] came written s r xs buf out j (inr (inr e)) g w = joined_end came written s.number (take s.have xs) j.0 j.1
-stopping (b ∷ bs) came written s r xs buf out j (inr (inl e)) g w = absurd (failed_told r Failure.Count refl e.1 w)
-stopping (b ∷ bs) came written s r xs buf out j (inr (inr (h, inl e))) g w = absurd (failed_told r Failure.Write refl e w)
-stopping (b ∷ bs) came written s r xs buf out j (inr (inr (h, inr k))) g w =
-    let x : Block = block_of s.number (take s.have xs ++ (b ∷ bs)) in
-    joined_last came written s.number (take s.have xs) j.0 j.1 (b ∷ bs) (not-false x.over (sym k.goes ∙ g))
+stopping : (more : List ℕ) (came written : List ℕ) (s : Part) (r : State) (xs buf out : List ℕ) → Going came written s xs → TurnedBy more s xs r buf out
+    → r ≡ Ok None → written ++ handed s.number (take s.have xs) more ≡ run (came ++ more)
+stopping more came written s r xs buf out j (inl e) g = absurd (Err≢Ok e g)
+stopping [] came written s r xs buf out j (inr (inl e)) g = absurd (Err≢Ok e g)
+stopping [] came written s r xs buf out j (inr (inr e)) g = joined_end came written s.number (take s.have xs) j.0 j.1
+stopping (b ∷ bs) came written s r xs buf out j (inr (inl e)) g = absurd (Err≢Ok e.1 g)
+stopping (b ∷ bs) came written s r xs buf out j (inr (inr (h, inl e))) g = absurd (Err≢Ok e g)
+stopping (b ∷ bs) came written s r xs buf out j (inr (inr (h, inr k))) g =
+    joined_last came written s.number (take s.have xs) j.0 j.1 (b ∷ bs) (subst (λ (o : State). Left o buf (block_of s.number (take s.have xs ++ (b ∷ bs)))) g k.left)
 
 -- a run that stops, and nothing failed
-pub whole : (k : ℕ) (came written : List ℕ) (r : State) (buf : List ℕ) → Ran k came written r buf → r.going ≡ false → r.failed ≡ Failure.Nothing → written ≡ run came
-whole k came written r buf begun g w = absurd (true≢false g)
-whole k came written r buf (turned {k = k₀} {came = came₀} {written = written₀} {s = s} {xs = xs} out more ran h t) g w =
-    stopping more came₀ written₀ s r xs buf out (going k₀ came₀ written₀ s xs ran h) t g w
+pub whole : {k : ℕ} {came written : List ℕ} {r : State} {buf : List ℕ} → Ran k came written r buf → r ≡ Ok None → written ≡ run came
+whole (begun h n) e = absurd (None≢Some e refl)
+whole {buf = buf} (turned {came = came} {written = written} {s = s} {r = r} {xs = xs} out more ran w) e =
+    stopping more came written s r xs buf out (going ran s refl) w e
 
--- the loop: so many turns are left
+-- after so many turns
 abbrev pub Running : ℕ → State → List ℕ → Type 0
-Running turns s buf = (k : ℕ) × ((came : List ℕ) × ((written : List ℕ) × ((k + turns ≡ most_turns) × Ran k came written s buf)))
+Running k r buf = (came : List ℕ) × ((written : List ℕ) × Ran k came written r buf)
 
-pub at_start : (turns : ℕ) (s : State) (buf : List ℕ) → turns ≡ most_turns → s ≡ empty true → Running turns s buf
-at_start turns s buf h e = (0, ([], ([], (omega arith, subst (λ (t : State). Ran 0 [] [] t buf) (sym e) begun))))
+pub at_start : (s : Part) (buf : List ℕ) → s.have ≡ 0 → s.number ≡ 1 → Running 0 (Ok (Some s)) buf
+at_start s buf h n = ([], ([], begun h n))
 
-pub one_turn : (turns : ℕ) (s r : State) (xs buf out : List ℕ) → 0 < turns → s.going ≡ true → Running turns s xs → Turned s xs r buf out
-    → Running (turns - 1) r buf
-one_turn turns s r xs buf out h g (k, (came, (written, (n, ran)))) (more, t) =
-    (suc k, (came ++ more, (written ++ handed s.number (take s.have xs) more, (omega arith, turned out more ran g t))))
+-- it does not matter how it is shown that the part line is short
+pub same_part : (k have number : ℕ) (p q : have ≤ 81) (buf : List ℕ) → Running k (Ok (Some record { have = have; number = number; short = p })) buf
+    → Running k (Ok (Some record { have = have; number = number; short = q })) buf
+same_part k have number p q buf = subst (λ (h : have ≤ 81). Running k (Ok (Some record { have = have; number = number; short = h })) buf) (le_prop p q)
 
-pub stopped : (turns : ℕ) (s : State) (buf : List ℕ) → s.going ≡ false → Running turns s buf → Finished s buf
-stopped turns s buf g (k, (came, (written, (n, ran)))) =
-    record { turns = k; came = came; written = written; ran = ran; ends = inl g; whole = whole k came written s buf ran }
+-- one more turn, from which the program goes on, or with which it ends
+module _ (k have number : ℕ) (short : have ≤ 81) (t : State) (xs buf out : List ℕ) (h : Running k (Ok (Some record { have = have; number = number; short = short })) xs)
+    (w : Turned record { have = have; number = number; short = short } xs t buf out) where
+  pub one_turn : (r : State) → r ≡ t → Running (k + 1) r buf
+  one_turn r e =
+      (h.0 ++ w.0, (h.1.0 ++ handed number (take have xs) w.0, subst (λ (u : State). Ran (k + 1) (h.0 ++ w.0) (h.1.0 ++ handed number (take have xs) w.0) u buf) (sym e) (turned out w.0 h.1.1 w.1)))
 
-pub all_used : (turns : ℕ) (s : State) (buf : List ℕ) → turns ≡ 0 → Running turns s buf → Finished s buf
-all_used turns s buf z (k, (came, (written, (n, ran)))) =
-    record { turns = k; came = came; written = written; ran = ran; ends = inr (omega arith); whole = whole k came written s buf ran }
+  pub last_turn : (r : State) → r ≡ t → going_of r ≡ false → Finished r buf
+  last_turn r e g = let d = one_turn r e in record { turns = k + 1; came = d.0; written = d.1.0; ran = d.1.1; ends = inl g; whole = whole d.1.1 }
+
+pub all_used : (k : ℕ) (r : State) (buf : List ℕ) → k ≡ most_turns → Running k r buf → Finished r buf
+all_used k r buf e (came, (written, ran)) = record { turns = k; came = came; written = written; ran = ran; ends = inr e; whole = whole ran }

@@ -5,23 +5,57 @@
 // or would block is made again (`waiting`).
 #![tactic(auto)]
 
-ghost use Rattle.std.specs.Prelude.{◌≡◌, cond, ◌+◌, ◌≤◌, eqb, length, take};
-ghost use Rattle.answer.specs.Room.{line_room};
-ghost use Rattle.text.specs.Block.{block_room, block_of};
+mod part;
+
+ghost use Rattle.std.specs.Prelude.{◌≡◌, ◌+◌, ◌≤◌, cond, eqb, length, take, Ok, Err, IfOk, IfErr, OnOk};
+ghost use Rattle.std.specs.Io.KnownBytes.{Appends};
+ghost use Rattle.text.specs.Block.{block_of};
 ghost use Rattle.mc33.specs.declared.Failure.{Failure};
-ghost use Rattle.mc33.specs.Kept.{empty, failure, comes_to, RefusedAt, Rooms, Kept};
-ghost use Rattle.mc33.specs.Kept.{Counted, Ended, Told, Turned};
+ghost use Rattle.mc33.specs.Kept.{comes_to, RefusedAt, Kept, Counted, Ended, Told, Turned};
 ghost use Rattle.mc33.specs.Runs.{Finished};
 
+use part::Part;
 use std::env::{Env, FillError};
+use std::io;
 use std::io::{IsTerminal, Read, Write};
 use std::time::Clock;
+
+// Room for a block, and for what it comes to.
+const BLOCK: usize = 65536;
+
+const ROOM: usize = 65664;
 
 // The lines are counted up to here, 2^63.
 const MOST_LINES: u64 = 0x8000_0000_0000_0000;
 
 // A loop has to end: so many turns are made at most, 2^64 - 1.
 const MOST_TURNS: u64 = u64::MAX;
+
+// What failed.
+#[derive(Clone, Copy)]
+enum Failure {
+    Read,
+    Count,
+    Write,
+}
+
+impl Failure {
+    // The line that says so.
+    fn line(self) -> &'static [u8] {
+        match self {
+            Failure::Read => b"mc33: read failed\n",
+            Failure::Count => b"mc33: counting the lines failed\n",
+            Failure::Write => b"mc33: write failed\n",
+        }
+    }
+}
+
+// A piece of the input: the block from this line on, or the end in this line.
+#[derive(Clone, Copy)]
+enum Piece {
+    Block(u64),
+    End(u64),
+}
 
 // What the program reads from and writes to, and the clock by which it waits.
 #[derive(Drop)]
@@ -32,302 +66,171 @@ struct Streams<C, R, W, E> {
     errors: E,
 }
 
-// What failed.
-#[derive(Drop)]
-enum Failure {
-    Nothing,
-    Read,
-    Count,
-    Write,
-}
-
-// How many bytes of the part line are kept, its number, whether to go on, and what failed.
-#[derive(Drop)]
-struct State {
-    have: usize,
-    number: u64,
-    going: bool,
-    failed: Failure,
-}
-
-// Nothing is kept, and line 1 is to come: how it begins, and with false how it stops.
-fn empty(going: bool) -> State
-    ensures { result ≡ empty going }
+// That so many bytes are all of the text; else the write failed.
+fn all_written(taken: usize, text: &[u8]) -> Result<(), Failure>
+    ensures { result ≡ cond (eqb taken (length text.now)) (Ok tt) (Err Failure.Write) }
 {
-    State {
-        have: 0,
-        number: 1,
-        going: going,
-        failed: Failure::Nothing,
+    if taken == text.len() {
+        Ok(())
+    } else {
+        Err(Failure::Write)
     }
 }
 
-// Says what failed, and stops.
-fn failed<C: Clock, E: Write>(clock: &C, errors: &mut E, text: &[u8], why: Failure) -> State
-    ensures { result ≡ failure why }
-{
-    waiting::write_all(clock, errors, text);
-    State {
-        have: 0,
-        number: 0,
-        going: false,
-        failed: why,
+impl<C: Clock, R: Read, W: Write, E: Write> Streams<C, R, W, E> {
+    fn say(&mut self, text: &[u8]) {
+        waiting::write_all(&self.clock, &mut self.errors, text);
     }
-}
 
-// Goes by what the write told: on to the next state, or the write failed.
-fn after_write<C: Clock, E: Write>(clock: &C, errors: &mut E, wrote: bool, next: State) -> State
-    ensures { result ≡ cond wrote next (failure Failure.Write) }
-{
-    if !wrote {
-        return failed(clock, errors, b"mc33: write failed\n", Failure::Write);
-    }
-    next
-}
-
-// Whether so many bytes are all of the text.
-fn is_all(taken: usize, text: &[u8]) -> bool
-    ensures { result ≡ eqb taken (length text.now) }
-{
-    taken == text.len()
-}
-
-// Writes what the block of this input, from line `number` on, comes to; at the input's end, what the end comes to in
-// line `number`, of which the input has come.
-fn write_text<C: Clock, W: Write>(
-    clock: &C,
-    output: &mut W,
-    text: &[u8],
-    number: u64,
-    input: &[u8],
-    ended: bool,
-) -> bool
-    requires { text.now ≡ comes_to ended number input.now }
-{
-    is_all(waiting::write_all(clock, output, text), text)
-}
-
-// Says at which line the input was refused, as standard output's last line does.
-fn say_refused<C: Clock, E: Write>(clock: &C, errors: &mut E, line: u64) {
-    let mut text = [0u8; 64];
-    let digits = put::bytes(b"mc33: refused at line ", &mut text, 0);
-    let end = put::decimal(line, &mut text, digits);
-    let n = put::byte(b'\n', &mut text, end);
-    waiting::write_all(clock, errors, &text[0..n]);
-}
-
-// The input was refused at `line`, by this block or at the input's end, as in `write_text`: says so, where that was
-// written.
-fn tell_refused<C: Clock, E: Write>(
-    clock: &C,
-    errors: &mut E,
-    wrote: bool,
-    line: u64,
-    number: u64,
-    input: &[u8],
-    ended: bool,
-)
-    requires { RefusedAt ended number input.now line }
-{
-    if wrote {
-        say_refused(clock, errors, line);
-    }
-}
-
-// Answers the n bytes that there are: what is kept is what their block leaves.
-fn answer<C: Clock, R: Read, W: Write, E: Write>(
-    streams: &mut Streams<C, R, W, E>,
-    number: u64,
-    buf: &mut [u8],
-    n: usize,
-    out: &mut [u8],
-) -> State
-    requires { (n ≤ 65536) × ((n ≤ length buf.old) × (n + block_room ≤ length out.old)) }
-    ensures have { result.have ≤ 81 }
-    ensures kept { Counted number result (Kept result buf.new out.new (block_of number (take n buf.old))) }
-{
-    if MOST_LINES <= number {
-        return failed(
-            &streams.clock,
-            &mut streams.errors,
-            b"mc33: counting the lines failed\n",
-            Failure::Count,
+    // Says what the program wants, below a line that says why.
+    fn say_wants(&mut self, why: &[u8]) {
+        self.say(why);
+        self.say(
+            b"mc33: on standard input: 'case config c0 c1 c2 c3 c4 c5 c6 c7', then a cube a line; see README.md\n",
         );
     }
-    let done = text::answer_block(&buf[0..n], number, out);
-    let put = done.put;
-    let wrote = write_text(
-        &streams.clock,
-        &mut streams.output,
-        &out[0..put],
-        number,
-        &buf[0..n],
-        false,
-    );
-    if done.over {
-        let line = done.number;
-        tell_refused(
-            &streams.clock,
-            &mut streams.errors,
-            wrote,
-            line,
-            number,
-            &buf[0..n],
-            false,
-        );
-        return after_write(&streams.clock, &mut streams.errors, wrote, empty(false));
-    }
-    let left = done.left;
-    let next = State {
-        have: put::to_front(buf, left, n),
-        number: done.number,
-        going: true,
-        failed: Failure::Nothing,
-    };
-    after_write(&streams.clock, &mut streams.errors, wrote, next)
-}
 
-// The input's end: answers it and stops.
-fn finish<C: Clock, R: Read, W: Write, E: Write>(
-    streams: &mut Streams<C, R, W, E>,
-    number: u64,
-    part: &[u8],
-    out: &mut [u8],
-) -> State
-    requires { line_room ≤ length out.old }
-    ensures have { result.have ≤ 81 }
-    ensures ended { Ended number part.now result out.new }
-{
-    let put = text::finish(part, number, out);
-    let wrote = write_text(
-        &streams.clock,
-        &mut streams.output,
-        &out[0..put],
-        number,
-        part,
-        true,
-    );
-    if put > 0 {
-        tell_refused(
-            &streams.clock,
-            &mut streams.errors,
-            wrote,
-            number,
-            number,
-            part,
-            true,
-        );
+    // Says at which line the input was refused, by this piece: as standard output's last line does.
+    fn say_refused(&mut self, line: u64, piece: Piece, input: &[u8])
+        requires { RefusedAt piece input.now line }
+    {
+        let mut text = [0u8; 64];
+        let digits = put::bytes(b"mc33: refused at line ", &mut text, 0);
+        let end = put::decimal(line, &mut text, digits);
+        let n = put::byte(b'\n', &mut text, end);
+        self.say(&text[..n]);
     }
-    after_write(&streams.clock, &mut streams.errors, wrote, empty(false))
-}
 
-// Goes by what the read told, -1 or how many bytes it put behind the part line. A part line leaves room to read,
-// so 0 is the input's end.
-fn after_read<C: Clock, R: Read, W: Write, E: Write>(
-    streams: &mut Streams<C, R, W, E>,
-    got: isize,
-    state: State,
-    buf: &mut [u8],
-    out: &mut [u8],
-) -> State
-    requires { (state.have ≤ 81) × Rooms buf.old out.old }
-    ensures have { result.have ≤ 81 }
-    ensures told { Told got state buf.old result buf.new out.new }
-{
-    if got < 0 {
-        return failed(
-            &streams.clock,
-            &mut streams.errors,
-            b"mc33: read failed\n",
-            Failure::Read,
-        );
+    // Writes what this piece of the input comes to.
+    fn write_text(&mut self, text: &[u8], piece: Piece, input: &[u8]) -> Result<(), Failure>
+        requires { text.now ≡ comes_to piece input.now }
+        ensures written { OnOk result (Appends (W.contents self.old.output) (W.contents self.new.output) text.now) }
+        ensures failed { IfErr result (λ why. why ≡ Failure.Write) }
+    {
+        all_written(
+            waiting::write_all(&self.clock, &mut self.output, text),
+            text,
+        )
     }
-    let have = state.have;
-    if got == 0 {
-        return finish(streams, state.number, &buf[0..have], out);
+
+    // Answers the n bytes that there are: what is kept is what their block leaves.
+    fn answer(
+        &mut self,
+        number: u64,
+        buf: &mut [u8; BLOCK],
+        n: usize,
+        out: &mut [u8; ROOM],
+    ) -> Result<Option<Part>, Failure>
+        requires { n ≤ length buf.old }
+        ensures { Counted number result (Kept result buf.new out.new (block_of number (take n buf.old))) }
+    {
+        if MOST_LINES <= number {
+            return Err(Failure::Count);
+        }
+        let done = text::answer_block(&buf[..n], number, out);
+        let put = done.put;
+        self.write_text(&out[..put], Piece::Block(number), &buf[..n])?;
+        if done.over {
+            self.say_refused(done.number, Piece::Block(number), &buf[..n]);
+            return Ok(None);
+        }
+        Ok(Some(Part {
+            have: put::to_front(buf, done.left, n),
+            number: done.number,
+        }))
     }
-    let n = have + io::count(got, &buf[have..]);
-    answer(streams, state.number, buf, n, out)
-}
 
-// Reads once, and answers what there is.
-fn turn<C: Clock, R: Read, W: Write, E: Write>(
-    streams: &mut Streams<C, R, W, E>,
-    state: State,
-    buf: &mut [u8],
-    out: &mut [u8],
-) -> State
-    requires { (state.have ≤ 81) × Rooms buf.old out.old }
-    ensures have { result.have ≤ 81 }
-    ensures turned { Turned state buf.old result buf.new out.new }
-{
-    let have = state.have;
-    let got = waiting::read(&streams.clock, &mut streams.input, &mut buf[have..]);
-    after_read(streams, got, state, buf, out)
-}
-
-// The turns, from the start on, until the program stops or all turns are used.
-fn run<C: Clock, R: Read, W: Write, E: Write>(
-    streams: &mut Streams<C, R, W, E>,
-    buf: &mut [u8],
-    out: &mut [u8],
-) -> State
-    requires { Rooms buf.old out.old }
-    ensures finished { Finished result buf.new }
-{
-    let mut state = empty(true);
-    let mut turns = MOST_TURNS;
-    while turns > 0 && state.going {
-        state = turn(streams, state, buf, out);
-        turns -= 1;
+    // The input's end: answers it and stops.
+    fn finish(
+        &mut self,
+        number: u64,
+        part: &[u8],
+        out: &mut [u8; ROOM],
+    ) -> Result<Option<Part>, Failure>
+        ensures { Ended number part.now result out.new }
+    {
+        let put = text::finish(part, number, out);
+        self.write_text(&out[..put], Piece::End(number), part)?;
+        if put > 0 {
+            self.say_refused(number, Piece::End(number), part);
+        }
+        Ok(None)
     }
-    state
-}
 
-// Says what the program wants, below a line that says why.
-fn say_wants<C: Clock, E: Write>(clock: &C, errors: &mut E, why: &[u8]) {
-    waiting::write_all(clock, errors, why);
-    waiting::write_all(
-        clock,
-        errors,
-        b"mc33: on standard input: 'case config c0 c1 c2 c3 c4 c5 c6 c7', then a cube a line; see README.md\n",
-    );
+    // Goes by what the read told: how many bytes it put behind the part line. A part line leaves room to read, so 0
+    // is the input's end.
+    fn after_read(
+        &mut self,
+        got: io::Result<usize>,
+        part: Part,
+        buf: &mut [u8; BLOCK],
+        out: &mut [u8; ROOM],
+    ) -> Result<Option<Part>, Failure>
+        requires { IfOk got (λ n. part.have + n ≤ length buf.old) }
+        ensures { Told got part buf.old result buf.new out.new }
+    {
+        match got {
+            Err(_) => Err(Failure::Read),
+            Ok(0) => self.finish(part.number, &buf[..part.have], out),
+            Ok(more) => self.answer(part.number, buf, part.have + more, out),
+        }
+    }
+
+    // Reads once, and answers what there is.
+    fn turn(
+        &mut self,
+        part: Part,
+        buf: &mut [u8; BLOCK],
+        out: &mut [u8; ROOM],
+    ) -> Result<Option<Part>, Failure>
+        ensures { Turned part buf.old result buf.new out.new }
+    {
+        let got = waiting::read(&self.clock, &mut self.input, &mut buf[part.have..]);
+        self.after_read(got, part, buf, out)
+    }
+
+    // The turns, from the start on, until the program stops or all turns are used.
+    fn run(&mut self, buf: &mut [u8; BLOCK], out: &mut [u8; ROOM]) -> Result<Option<Part>, Failure>
+        ensures { Finished result buf.new }
+    {
+        let mut part = Part { have: 0, number: 1 };
+        for _turns in 0..MOST_TURNS {
+            match self.turn(part, buf, out)? {
+                Some(next) => part = next,
+                None => return Ok(None),
+            }
+        }
+        Ok(Some(part))
+    }
 }
 
 // Whether the program was given an argument.
 fn has_argument<V: Env>(system: &V) -> bool {
     let mut name = [0u8; 64];
-    match system.arg(1, &mut name) {
-        Err(FillError::NotPresent) => false,
-        _ => true,
-    }
+    !matches!(system.arg(1, &mut name), Err(FillError::NotPresent))
 }
 
 fn main(rt: HostRuntime) {
-    let mut errors = rt.stderr();
+    let mut streams = Streams {
+        clock: &rt,
+        input: rt.stdin(),
+        output: rt.stdout(),
+        errors: rt.stderr(),
+    };
     if has_argument(&rt) {
-        say_wants(
-            &rt,
-            &mut errors,
+        streams.say_wants(
             b"mc33: takes no argument, and read nothing; run it as: mc33 < cubes.txt > answers.txt\n",
         );
         return;
     }
-    let input = rt.stdin();
-    if input.is_terminal() {
-        say_wants(
-            &rt,
-            &mut errors,
+    if streams.input.is_terminal() {
+        streams.say_wants(
             b"mc33: reads cubes from this terminal, up to Ctrl-D; from a file: mc33 < cubes.txt > answers.txt\n",
         );
     }
-    let mut streams = Streams {
-        clock: &rt,
-        input: input,
-        output: rt.stdout(),
-        errors: errors,
-    };
-    let mut buf = [0u8; 65536];
-    let mut out = [0u8; 65664];
-    run(&mut streams, &mut buf, &mut out);
+    let mut buf = [0u8; BLOCK];
+    let mut out = [0u8; ROOM];
+    if let Err(failure) = streams.run(&mut buf, &mut out) {
+        streams.say(failure.line());
+    }
 }
