@@ -1,2 +1,1 @@
 mod Controls
-mod Told

@@ -6,8 +6,8 @@ ghost use Rattle.std.specs.Prelude.{◌≡◌, ◌≤◌, length};
 ghost use Rattle.root.specs.Root.{root_of, root_bits};
 ghost use Rattle.root.specs.Nearest.{NearestRoot};
 ghost use Rattle.root.specs.Special.{SpecialRoots, SpecialBits};
-ghost use Rattle.face.specs.Face.{test_face_of};
-ghost use Rattle.edge.specs.Edge.{told, edge_reading_of};
+ghost use Rattle.face.specs.Face.{test_face_of, said as face_said};
+ghost use Rattle.edge.specs.Edge.{edge_reading_of, said as edge_said};
 ghost use Rattle.cube.specs.Bits.{bit_of};
 ghost use Rattle.cube.specs.Refusals.{refusal_number};
 ghost use Rattle.tilings.specs.Answers.{reached};
@@ -15,18 +15,16 @@ ghost use Rattle.choice.specs.Choice.{refused, readings_in, answer_of, said};
 ghost use Rattle.rows.specs.Results.{outcome_result};
 ghost use Rattle.list.specs.Lists.{result_of, answers_of};
 ghost use Rattle.mc33_c.specs.Version.{version};
-ghost use Rattle.mc33_c.specs.Answers.{answered, reached_numbers, choice_numbers, face_numbers, read_as, reading_numbers, edge_numbers, outcome_numbers};
+ghost use Rattle.mc33_c.specs.Answers.{answered, reached_numbers, choice_numbers, face_numbers, read_as, edge_numbers, outcome_numbers};
 
-use choice::Answer;
 use cube::{Cube, EdgeNo, Face, Refusal};
-use edge::{EdgeAnswer, Reading};
-use face::FaceAnswer;
+use edge::Reading;
 use notes::Notes;
-use rows::Outcome;
+use rows::ListRefused;
 use tilings::{Choice, Counted};
 
-// `refusal` is 0 where there is an answer. Empty is all 0; no tiling is code 255 with the configuration
-// as row and the sub-configuration as column. Behind them stands what was counted.
+// `refusal` is 0 where there is an answer. Empty is all 0; no tiling is code 255, a number of the C interface, with the
+// configuration as row and the sub-configuration as column. Behind them stands what was counted.
 #[repr(C)]
 #[derive(Clone, Copy)]
 pub struct Mc33Choice {
@@ -48,7 +46,8 @@ pub struct Mc33Face {
     pub answer: u8,
 }
 
-// `kind` is 1 for rising, 2 beyond, 3 crossed, 4 blank; t and the product are 0 where the reading has none.
+// `kind` is 1 for rising, 2 beyond, 3 crossed, 4 blank, numbers of the C interface; t and the product are 0 where
+// the reading has none.
 #[repr(C)]
 #[derive(Clone, Copy)]
 pub struct Mc33Edge {
@@ -91,6 +90,7 @@ pub fn mc33_root_bits(bits: u32) -> u32
     root::root_bits(bits)
 }
 
+#[tactic(auto, unfolding(crate::specs::Answers::choice_numbers))]
 fn no_choice(why: Refusal) -> Mc33Choice
     ensures { result ≡ choice_numbers (refused (refusal_number why)) }
 {
@@ -106,15 +106,16 @@ fn no_choice(why: Refusal) -> Mc33Choice
     }
 }
 
+#[tactic(auto, using(cube::proofs::Bounds::bit_bound))]
 fn answered(code: u8, row: u8, column: u8, centre: bool, notes: Notes) -> Mc33Choice
     requires { notes.readings ≤ 255 }
     ensures { result ≡ answered code row column (bit_of centre) notes }
 {
     Mc33Choice {
         refusal: 0,
-        code: code,
-        row: row,
-        column: column,
+        code,
+        row,
+        column,
         centre: centre as u8,
         unsettled: notes.unsettled,
         unmatched: notes.unmatched,
@@ -123,12 +124,12 @@ fn answered(code: u8, row: u8, column: u8, centre: bool, notes: Notes) -> Mc33Ch
 }
 
 // A choice as numbers.
+#[tactic(auto, unfolding(crate::specs::Answers::reached_numbers))]
 fn reached_numbers(r: Counted) -> Mc33Choice
     requires { r.notes.readings ≤ 255 }
     ensures { result ≡ reached_numbers (reached r) }
 {
-    let choice = r.choice;
-    let notes = r.notes;
+    let Counted { choice, notes } = r;
     match choice {
         Choice::Empty => answered(0, 0, 0, false, notes),
         Choice::Untiled(c, sub) => answered(255, c, sub, false, notes),
@@ -136,37 +137,48 @@ fn reached_numbers(r: Counted) -> Mc33Choice
     }
 }
 
-fn choice_numbers(answer: Answer) -> Mc33Choice
+#[tactic(auto, unfolding(crate::specs::Answers::choice_numbers))]
+fn choice_numbers(answer: Result<Counted, Refusal>) -> Mc33Choice
     requires { readings_in (said answer) ≤ 255 }
     ensures { result ≡ choice_numbers (said answer) }
 {
     match answer {
-        Answer::Chosen(r) => reached_numbers(r),
-        Answer::Refused(why) => no_choice(why),
+        Ok(r) => reached_numbers(r),
+        Err(why) => no_choice(why),
     }
 }
 
 // The choice for a case, a configuration and a cube.
+#[tactic(auto, using(choice::proofs::Ranges::few_in))]
 pub fn mc33_choose(case: i8, configuration: i8, cube: Cube) -> Mc33Choice
     ensures { result ≡ choice_numbers (answer_of case configuration cube) }
 {
     choice_numbers(choice::handle_cube(case, configuration, cube))
 }
 
+impl From<Result<bool, Refusal>> for Mc33Face {
+    ghost from_gives = { λ answer numbers. numbers ≡ face_numbers (face_said answer) };
+
+    #[tactic(auto, unfolding(crate::specs::Answers::face_numbers), using(cube::proofs::Bounds::bit_bound))]
+    fn from(answer: Result<bool, Refusal>) -> Mc33Face {
+        match answer {
+            Ok(yes) => Mc33Face {
+                refusal: 0,
+                answer: yes as u8,
+            },
+            Err(why) => Mc33Face {
+                refusal: cube::number(why),
+                answer: 0,
+            },
+        }
+    }
+}
+
 // The face test of a signed face number.
 pub fn mc33_face(cube: Cube, face: i8) -> Mc33Face
     ensures { result ≡ face_numbers (test_face_of cube face) }
 {
-    match face::test_face(cube, Face(face)) {
-        FaceAnswer::Answer(yes) => Mc33Face {
-            refusal: 0,
-            answer: yes as u8,
-        },
-        FaceAnswer::Refused(why) => Mc33Face {
-            refusal: cube::number(why),
-            answer: 0,
-        },
-    }
+    Mc33Face::from(face::test_face(cube, Face(face)))
 }
 
 fn read(kind: u8, t: f32, product: f32) -> Mc33Edge
@@ -174,21 +186,29 @@ fn read(kind: u8, t: f32, product: f32) -> Mc33Edge
 {
     Mc33Edge {
         refusal: 0,
-        kind: kind,
-        t: t,
-        product: product,
+        kind,
+        t,
+        product,
     }
 }
 
-// A reading as numbers.
-fn reading_numbers(r: Reading) -> Mc33Edge
-    ensures { result ≡ reading_numbers (told r) }
-{
-    match r {
-        Reading::Rising => read(1, 0.0, 0.0),
-        Reading::Beyond(t) => read(2, t, 0.0),
-        Reading::Crossed(t, product) => read(3, t, product),
-        Reading::Blank => read(4, 0.0, 0.0),
+impl From<Result<Reading, Refusal>> for Mc33Edge {
+    ghost from_gives = { λ answer numbers. numbers ≡ edge_numbers (edge_said answer) };
+
+    #[tactic(auto, unfolding(crate::specs::Answers::edge_numbers, crate::specs::Answers::reading_numbers))]
+    fn from(answer: Result<Reading, Refusal>) -> Mc33Edge {
+        match answer {
+            Ok(Reading::Rising) => read(1, 0.0, 0.0),
+            Ok(Reading::Beyond(t)) => read(2, t, 0.0),
+            Ok(Reading::Crossed(t, product)) => read(3, t, product),
+            Ok(Reading::Blank) => read(4, 0.0, 0.0),
+            Err(why) => Mc33Edge {
+                refusal: cube::number(why),
+                kind: 0,
+                t: 0.0,
+                product: 0.0,
+            },
+        }
     }
 }
 
@@ -196,36 +216,24 @@ fn reading_numbers(r: Reading) -> Mc33Edge
 pub fn mc33_edge(cube: Cube, edge: i8) -> Mc33Edge
     ensures { result ≡ edge_numbers (edge_reading_of cube edge) }
 {
-    match edge::interior_ambiguity_verification(cube, EdgeNo(edge)) {
-        EdgeAnswer::Read(r) => reading_numbers(r),
-        EdgeAnswer::Refused(why) => Mc33Edge {
-            refusal: cube::number(why),
-            kind: 0,
-            t: 0.0,
-            product: 0.0,
-        },
-    }
+    Mc33Edge::from(edge::interior_ambiguity_verification(cube, EdgeNo(edge)))
 }
 
-fn wide(x: u8) -> u64
-    ensures { result ≡ x }
-{
-    x as u64
-}
+impl From<Result<(), ListRefused>> for Mc33Outcome {
+    ghost from_gives = { λ outcome numbers. numbers ≡ outcome_numbers (outcome_result outcome) };
 
-// A list's outcome as numbers.
-fn outcome_numbers(outcome: Outcome) -> Mc33Outcome
-    ensures { result ≡ outcome_numbers (outcome_result outcome) }
-{
-    match outcome {
-        Outcome::Done => Mc33Outcome {
-            refusal: 0,
-            place: 0,
-        },
-        Outcome::Refused(why, i) => Mc33Outcome {
-            refusal: wide(why),
-            place: i as u64,
-        },
+    #[tactic(auto, unfolding(crate::specs::Answers::outcome_numbers))]
+    fn from(outcome: Result<(), ListRefused>) -> Mc33Outcome {
+        match outcome {
+            Ok(()) => Mc33Outcome {
+                refusal: 0,
+                place: 0,
+            },
+            Err(refused) => Mc33Outcome {
+                refusal: u64::from(cube::number(refused.why)),
+                place: refused.place as u64,
+            },
+        }
     }
 }
 
@@ -235,5 +243,5 @@ pub fn mc33_list(corners: &[f32], numbers: &[i8], answers: &mut [u8]) -> Mc33Out
     ensures outcome { result ≡ outcome_numbers (result_of corners.now numbers.now (length answers.old)) }
     ensures answers { answers.new ≡ answers_of corners.now numbers.now answers.old }
 {
-    outcome_numbers(list::choose_list(corners, numbers, answers))
+    Mc33Outcome::from(list::choose_list(corners, numbers, answers))
 }
