@@ -8,6 +8,7 @@ pub fn bit(b: bool) -> u32
     b as u32
 }
 
+#[tactic(auto, using(crate::proofs::Bounds::three_bound))]
 pub fn three(b0: bool, b1: bool, b2: bool) -> u32
     ensures { (result ≤ 7) × (result ≡ number_of (b0 ∷ b1 ∷ b2 ∷ [])) }
 {

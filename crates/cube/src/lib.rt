@@ -79,6 +79,7 @@ pub fn corner_in(column: u64, k: u32) -> Corner
 }
 
 // The corner values in their order, for reads at a corner that varies.
+#[tactic(auto, unfolding(crate::specs::Corners::corners))]
 pub fn values(q: Cube) -> [f32; 8]
     ensures { result ≡ corners q }
 {
@@ -86,6 +87,7 @@ pub fn values(q: Cube) -> [f32; 8]
 }
 
 // The value at a corner, and a NaN past corner 7.
+#[tactic(auto, unfolding(crate::specs::Corners::value_at))]
 pub fn value_at(values: &[f32; 8], k: Corner) -> f32
     ensures { result ≡ value_at values.now k.0 }
 {

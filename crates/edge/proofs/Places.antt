@@ -6,11 +6,12 @@ use Prim.Native.Nat.{ℕ}
 use lib.IntN.{ℤ, nat_abs}
 use lib.Ieee.{Float}
 use Rattle.std.specs.Prelude.{Option, Some, None, is_some}
-use Rattle.binary32.specs.Numbers.{f32}
 use Rattle.cube.specs.declared.Cube.{Cube}
 use Rattle.cube.specs.Corners.{corners, value_at, corner_of, all_finite}
-use Rattle.edge.specs.Edge.{Told, quotients, edge_by, edge_of, is_edge, reading, refused, edge_reading_of}
+use Rattle.edge.specs.Edge.{Told, edge_by, edge_of, is_edge, reading, refused, edge_reading_of}
+use Rattle.edge.specs.declared.Moves.{Moves}
 use Rattle.edge.specs.Columns.{place_of}
+use Rattle.edge.specs.Moves.{moves_of, read_of}
 
 some_by : (b : Bool) (k : ℕ) → is_some (cond b (Some k) None) ≡ b
 some_by true k = refl
@@ -29,6 +30,6 @@ module _ (q : Cube) (z : ℤ) (p : Option ℕ) (e : p ≡ place_of z) where
   unfolding edge_reading_of
   by_not_finite s g = rw (is_an_edge true s, g)
 
-  pub by_reading : is_some p ≡ true → all_finite q ≡ true → (vs : List Float) → vs ≡ corners q → (r : Told Float) → r ≡ edge_by f32 quotients (value_at vs) z → reading r ≡ edge_reading_of q z
-  unfolding edge_reading_of edge_of corner_of
-  by_reading s g vs ev r er = rw (is_an_edge true s, g, er, ev)
+  pub by_reading : is_some p ≡ true → all_finite q ≡ true → (vs : List Float) → vs ≡ corners q → (m : Moves) → m ≡ moves_of (value_at vs) z → (r : Told Float) → r ≡ read_of m → reading r ≡ edge_reading_of q z
+  unfolding edge_reading_of edge_of edge_by moves_of read_of corner_of
+  by_reading s g vs ev m em r er = rw (is_an_edge true s, g, er, em, ev)

@@ -1,9 +1,7 @@
 -- The reading of four moves, from the tests as the code makes them. Assumes nothing.
 use mathlib.Core.Path.{◌≡◌, refl, sym, ◌∙◌}
 use mathlib.Core.Bool.{Bool, true, false, cond, ◌||◌, true≢false}
-use Prim.Native.Nat.{◌*◌}
-use borrow.Author.Tests.{eq-eqb}
-use lib.Ieee.{Float, nan, inf, fin, binary32, up, down, neg, add, sub, mul, div, lt, eq, ne, is_nan, of_bits}
+use lib.Ieee.{Float, nan, inf, fin, binary32, neg, add, sub, mul, div, lt, is_nan, of_bits}
 use Rattle.binary32.specs.Numbers.{f32}
 use Rattle.binary32.proofs.Magnitudes.{mul_nan}
 use Rattle.edge.specs.declared.Moves.{Moves}
@@ -29,20 +27,6 @@ unfolding is_nan
 product_tells m nan = rw (place_nan m.u1 m.g1) (unfold mul sub add in refl)
 product_tells m (inf s) = refl
 product_tells m (fin s n e) = refl
-
--- a NaN alone differs from itself
-unlike_itself : (p : Float) → ne p p ≡ is_nan p
-unfolding ne eq is_nan
-unlike_itself nan = refl
-unlike_itself (inf true) = refl
-unlike_itself (inf false) = refl
-unlike_itself (fin true m e) = rw (eq-eqb (m * up e * down e) (m * up e * down e) refl)
-unlike_itself (fin false m e) = rw (eq-eqb (m * up e * down e) (m * up e * down e) refl)
-
-pub the_product : (m : Moves) (t w1 w2 w3 w4 : Float)
-    → w1 ≡ place_at m.u1 m.g1 t → w2 ≡ place_at m.u2 m.g2 t → w3 ≡ place_at m.u3 m.g3 t → w4 ≡ place_at m.u4 m.g4 t
-    → sub binary32 (mul binary32 w1 w3) (mul binary32 w2 w4) ≡ product_of m t
-the_product m t w1 w2 w3 w4 e1 e2 e3 e4 = λ i. sub binary32 (mul binary32 (e1 i) (e3 i)) (mul binary32 (e2 i) (e4 i))
 
 -- ---- the four ways out of `read`, by its tests: a above zero, t outside 0 and 1, the product a NaN
 module _ {A : Type 0} (x y z w : A) where
@@ -77,19 +61,19 @@ module _ (m : Moves) (a b p : Float) (ea : a ≡ a_of f32 m.g1 m.g2 m.g3 m.g4) (
   abbrev outside : Bool
   outside = lt t (of_bits binary32 0) || lt (of_bits binary32 0x3f800000) t
 
-  module _ (ep : p ≡ product_of m t) where
-    read_by_lem : by_tests rising (beyond t) blank (crossed t p) rises outside (ne p p) ≡ read_of m
+  module _ (n : Bool) (ep : p ≡ product_of m t) (en : n ≡ is_nan p) where
+    read_by_lem : by_tests rising (beyond t) blank (crossed t p) rises outside n ≡ read_of m
     unfolding read_of read_by cross_by of_bits
-    read_by_lem = rw (← ea, ← eb, product_tells m t, ← ep, ← unlike_itself p)
+    read_by_lem = rw (← ea, ← eb, product_tells m t, ← ep, ← en)
 
-    pub by_crossed : (rises || outside) || ne p p ≡ false → crossed t p ≡ read_of m
-    by_crossed e = none_holds _ _ _ _ rises outside (ne p p) e ∙ read_by_lem
+    pub by_crossed : (rises || outside) || n ≡ false → crossed t p ≡ read_of m
+    by_crossed e = none_holds _ _ _ _ rises outside n e ∙ read_by_lem
 
-    pub by_blank : (rises || outside) || ne p p ≡ true → rises || outside ≡ false → blank ≡ read_of m
-    by_blank g e = last_holds _ _ _ _ rises outside (ne p p) g e ∙ read_by_lem
+    pub by_blank : (rises || outside) || n ≡ true → rises || outside ≡ false → blank ≡ read_of m
+    by_blank g e = last_holds _ _ _ _ rises outside n g e ∙ read_by_lem
 
     pub by_rising : rises ≡ true → rising ≡ read_of m
     by_rising e = rw (← read_by_lem, e)
 
     pub by_beyond : rises || outside ≡ true → rises ≡ false → beyond t ≡ read_of m
-    by_beyond g e = second_holds _ _ _ _ rises outside (ne p p) g e ∙ read_by_lem
+    by_beyond g e = second_holds _ _ _ _ rises outside n g e ∙ read_by_lem

@@ -9,7 +9,7 @@ ghost use Rattle.std.specs.Float.{binary32};
 ghost use Rattle.std.specs.Float.Ieee.{add, sub, mul};
 ghost use Rattle.binary32.specs.Numbers.{f32};
 ghost use Rattle.cube.specs.Corners.{value_at};
-ghost use Rattle.edge.specs.Edge.{a_of, b_of, quotients, edge_by, told, said, edge_reading_of};
+ghost use Rattle.edge.specs.Edge.{a_of, b_of, told, said, edge_reading_of};
 ghost use Rattle.edge.specs.Columns.{place_of, row_of};
 ghost use Rattle.edge.specs.Moves.{moves_of, product_of, read_of};
 
@@ -25,7 +25,8 @@ pub enum Reading {
     Blank,
 }
 
-// The four moves u→v of an edge: the value at u, and g = v - u.
+// The four moves u→v of an edge: the value at u, and g = v - u. Fields and no array, since each of the
+// definitions names u1 to g4, and so would the code.
 #[derive(Clone, Copy)]
 pub struct Moves {
     pub u1: f32,
@@ -150,7 +151,7 @@ pub fn read(m: Moves) -> Reading
     let rising = a > 0.0;
     let beyond = (t < 0.0) | (t > 1.0);
     let past = rising | beyond;
-    let blank = product != product;
+    let blank = product.is_nan();
     if !(past | blank) {
         return Reading::Crossed(t, product);
     }
@@ -161,13 +162,6 @@ pub fn read(m: Moves) -> Reading
         return Reading::Rising;
     }
     Reading::Beyond(t)
-}
-
-// The reading of an edge by the corners' values.
-fn reading_of(values: &[f32; 8], edge: EdgeNo) -> Reading
-    ensures { told result ≡ edge_by f32 quotients (value_at values.now) edge.0 }
-{
-    read(moves_of(values, edge))
 }
 
 // The edge reading: refusal 5 where the number is no edge, 3 where a corner is not finite, or the reading.
@@ -181,5 +175,5 @@ pub fn interior_ambiguity_verification(q: Cube, edge: EdgeNo) -> Result<Reading,
     if !cube::all_finite(q) {
         return Err(Refusal::NotFinite);
     }
-    Ok(reading_of(&cube::values(q), edge))
+    Ok(read(moves_of(&cube::values(q), edge)))
 }

@@ -11,8 +11,6 @@ use lib.Ieee.Bits.{is_true}
 use Rattle.binary32.specs.Numbers.{f32, magnitude, epsilon}
 use Rattle.binary32.proofs.Magnitudes.{mul_nan}
 use Rattle.cube.specs.declared.Cube.{Cube}
-use Rattle.face.specs.declared.Square.{Square}
-use Rattle.face.specs.Columns.{square_of}
 use Rattle.face.specs.Face.{rule, face_by, face_of, is_face, is_positive}
 use Rattle.face.specs.Laws.{alternate, FaceLawsAt}
 use Rattle.face.proofs.Decision.{val, kept, square, turned, decided, kept_turned}
@@ -56,10 +54,3 @@ face_laws q n r e = record {
   symmetry = λ f t. e ∙ symmetric n _ _ _ _ f t;
   against = λ f t. e ∙ opposed n _ _ _ _ f t;
 }
-
--- the answer and its laws, from the values at the face's corners
-pub answered : (q : Cube) (n : ℤ) (s : Square) (r : Bool) → s ≡ square_of q n → r ≡ rule f32 n s.a s.b s.c s.d → (r ≡ face_of q n) × FaceLawsAt q n r
-answered q n s r es er = let e = er ∙ by_square es in (e, face_laws q n r e)
-  where
-    by_square : s ≡ square_of q n → rule f32 n s.a s.b s.c s.d ≡ face_of q n
-    by_square es = unfold face_of face_by in ap (λ (x : Square). rule f32 n x.a x.b x.c x.d) es

@@ -1,4 +1,4 @@
-mod Columns
+pub mod Columns
 mod Controls
 pub mod Decision
 pub mod Laws

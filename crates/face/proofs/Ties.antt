@@ -1,47 +1,34 @@
--- The tie of the face test as code makes it, -2^-23 < val < 2^-23, is |val| < 2^-23, at a NaN too. Assumes nothing.
-use mathlib.Core.Path.{◌≡◌, refl, sym, ◌∙◌}
-use mathlib.Core.Bool.{true, false, ◌&&◌, and-true}
-use Prim.Native.Nat.{ℕ, ◌+◌, ◌*◌, ◌<◌}
-use native.Mathlib.Omega.{arith}
-use borrow.Author.Tests.{lt-ltb}
-use lib.Dec.{ltb}
+-- The two ways out of the face test's code: a tie, and the product's sign. Assumes nothing.
+use mathlib.Core.Path.{◌≡◌, refl, ◌∙◌}
+use mathlib.Core.Bool.{true, false}
 use lib.IntN.{ℤ, pos}
 use lib.Signed.{lt_z}
-use lib.Ieee.{Float, nan, inf, fin, binary32, up, down, neg, sub, mul, lt, le, of_bits, of_int}
-use lib.Ieee.Fits.{down_pos}
+use lib.Ieee.{Float, nan, inf, fin, binary32, sub, mul, lt, le, of_bits, of_int}
 use mir.Syntax.{w8}
 use mir.Val.{SFits, to_z, of_z}
 use mir.ValLaws.{to_z-of_z}
-use Rattle.binary32.specs.Numbers.{magnitude, epsilon, f32}
+use Rattle.std.specs.Float.{float_with_sign}
+use Rattle.binary32.specs.Numbers.{magnitude, f32}
 use Rattle.face.specs.Face.{rule}
 
--- 1 over something, taken with anything else, is above zero
-some : (d n : ℕ) → 0 < d → (ltb 0 (1 * d + n) ≡ true) × (ltb 0 (n + 1 * d) ≡ true)
-some d n h = (lt-ltb 0 (1 * d + n) (omega arith), lt-ltb 0 (n + 1 * d) (omega arith))
+by_magnitude : (v : Float) → float_with_sign false v ≡ magnitude v
+unfolding float_with_sign
+by_magnitude nan = refl
+by_magnitude (inf s) = refl
+by_magnitude (fin s m e) = refl
 
-pub within_epsilon : (v : Float) → lt v epsilon && lt (neg epsilon) v ≡ lt (magnitude v) epsilon
-unfolding lt neg
-within_epsilon nan = refl
-within_epsilon (inf true) = refl
-within_epsilon (inf false) = refl
-within_epsilon (fin false m e) = rw ((some (down e) (m * up e * 8388608) (down_pos e)).0, and-true)
-within_epsilon (fin true m e) = rw (some (down e) (m * up e * 8388608) (down_pos e)).1
-
--- ---- the two ways out of the rule, as code comes to them: 872415232 is the pattern of 2^-23
-module _ (z : ℤ) (a b c d : Float) (f : SFits w8 z) where
+-- 872415232 is the pattern of 2^-23
+module _ (z : ℤ) (a b c d v : Float) (f : SFits w8 z) (ev : v ≡ float_with_sign false (sub binary32 (mul binary32 a c) (mul binary32 b d))) where
   abbrev val : Float
   val = sub binary32 (mul binary32 a c) (mul binary32 b d)
 
-  tied_is : lt val (of_bits binary32 872415232) && lt (neg (of_bits binary32 872415232)) val ≡ lt (magnitude val) epsilon
-  unfolding of_bits
-  tied_is = within_epsilon val
+  size : v ≡ magnitude val
+  size = ev ∙ by_magnitude val
 
-  pub by_tie : lt val (of_bits binary32 872415232) && lt (neg (of_bits binary32 872415232)) val ≡ true
-      → lt_z (pos 0) (to_z w8 (of_z w8 z)) ≡ rule f32 z a b c d
-  unfolding rule
-  by_tie h = rw (sym tied_is ∙ h, to_z-of_z w8 z f)
-
-  pub by_sign : lt val (of_bits binary32 872415232) && lt (neg (of_bits binary32 872415232)) val ≡ false
-      → le (of_bits binary32 0) (mul binary32 (mul binary32 (of_int binary32 (to_z w8 (of_z w8 z))) a) val) ≡ rule f32 z a b c d
+  pub by_tie : lt v (of_bits binary32 872415232) ≡ true → lt_z (pos 0) (to_z w8 (of_z w8 z)) ≡ rule f32 z a b c d
   unfolding rule of_bits
-  by_sign h = rw (sym tied_is ∙ h, to_z-of_z w8 z f)
+  by_tie h = rw (← size, h, to_z-of_z w8 z f)
+
+  pub by_sign : lt v (of_bits binary32 872415232) ≡ false → le (of_bits binary32 0) (mul binary32 (mul binary32 (of_int binary32 (to_z w8 (of_z w8 z))) a) val) ≡ rule f32 z a b c d
+  unfolding rule of_bits
+  by_sign h = rw (← size, h, to_z-of_z w8 z f)

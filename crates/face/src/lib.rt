@@ -49,12 +49,13 @@ pub fn place(face: Face) -> Option<u32>
 }
 
 // val = a×c - b×d; a tie answers face > 0, else (face × a) × val >= 0 does.
-fn join(face: Face, a: f32, b: f32, c: f32, d: f32) -> bool
-    ensures { result ≡ rule f32 face.0 a b c d }
+fn join(face: Face, s: Square) -> bool
+    ensures { result ≡ rule f32 face.0 s.a s.b s.c s.d }
 {
-    let epsilon = 0.00000011920929f32;
+    let Square { a, b, c, d } = s;
+    let epsilon = f32::EPSILON;
     let val = a * c - b * d;
-    if (val < epsilon) & (-epsilon < val) {
+    if val.abs() < epsilon {
         return 0 < face.0;
     }
     face.0 as f32 * a * val >= 0.0
@@ -69,6 +70,7 @@ fn corners_of(face: Face) -> [u8; 4]
 }
 
 // The values at the face's corners.
+#[tactic(auto, using(crate::proofs::Columns::squared))]
 pub fn square_of(q: Cube, face: Face) -> Square
     ensures { result ≡ square_of q face.0 }
 {
@@ -83,12 +85,12 @@ pub fn square_of(q: Cube, face: Face) -> Square
 }
 
 // The rule's answer. A number that is no face is given corner 0 four times.
+#[tactic(auto, using(crate::proofs::Laws::face_laws), unfolding(crate::specs::Face::face_of, crate::specs::Face::face_by))]
 pub fn face_answer(q: Cube, face: Face) -> bool
     ensures answer { result ≡ face_of q face.0 }
     ensures laws { FaceLawsAt q face.0 result }
 {
-    let s = square_of(q, face);
-    join(face, s.a, s.b, s.c, s.d)
+    join(face, square_of(q, face))
 }
 
 // The face test: refusal 4 where the number is no face, 3 where a corner is not finite, or the answer.
