@@ -44,10 +44,14 @@ fn first_tiling(case: u8) -> u8
     }
 }
 
+// The cases that ask something.
+const ASKING: [u8; 7] = [3, 4, 6, 7, 10, 12, 13];
+
+#[tactic(auto, using(crate::proofs::Families::one_of))]
 pub fn asks(case: u8) -> bool
     ensures { result ≡ is_one_of case asking }
 {
-    matches!(case, 3 | 4 | 6 | 7 | 10 | 12 | 13)
+    ASKING.contains(&case)
 }
 
 // The choice for a configuration of a case that asks nothing.
