@@ -6,9 +6,7 @@ use Prim.Native.Nat.{ℕ, zero, suc, ◌<◌, ◌≤◌}
 use native.Mathlib.Nat.{lt_of_not-le, not-suc-le-zero}
 use native.Mathlib.Omega.{arith}
 use borrow.Author.Tests.{ne_eqb}
-use lib.Dec.{eqb}
 use lib.ListN.{get_or, get_or-eq_default}
-use Rattle.std.specs.List.{list_any}
 use Rattle.cube.specs.declared.Cube.{Cube}
 use Rattle.cube.proofs.Table.{agree, NoneFrom, past_all}
 use Rattle.notes.specs.Notes.{no_notes}
@@ -16,14 +14,6 @@ use Rattle.tilings.specs.Tilings.{configurations, tilings_of, first_tiling, is_o
 use Rattle.tilings.specs.Plan.{tiling, Reached, reach, run}
 use Rattle.tilings.specs.Answers.{answers_of}
 use Rattle.families.specs.Plans.{asking, plans, plan_of}
-
-swapped : (m n : ℕ) → eqb m n ≡ eqb n m
-swapped m n = grind arith
-
--- a case is one of a list's
-pub one_of : (case : ℕ) (cases : List ℕ) → list_any (λ k. eqb k case) cases ≡ is_one_of case cases
-one_of case [] = refl
-one_of case (k ∷ ks) = rw (swapped k case, one_of case ks)
 
 module _ {case c : ℕ} where
   of_a_case : c < get_or configurations case 0 → case < 15

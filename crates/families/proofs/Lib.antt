@@ -1,3 +1,4 @@
+mod Bits
 mod Controls
 pub mod Families
 mod Runs
