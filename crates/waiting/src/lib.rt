@@ -34,7 +34,7 @@ fn wait<C: Clock>(clock: &C, kind: ErrorKind) {
 // Makes the call, and again while it fails for now only.
 fn retry<C: Clock, F: FnMut() -> io::Result<usize>>(clock: &C, call: &mut F) -> io::Result<usize>
     requires { F.IsAlwaysCallable call.old }
-    ensures { Retried (λ f r g. F.step f r g) call.old result call.new }
+    ensures { Retried F.step call.old result call.new }
 {
     for _tries in 0..MOST_TRIES {
         match call() {
@@ -69,6 +69,7 @@ pub fn write_all<C: Clock, W: Write>(clock: &C, output: &mut W, text: &[u8]) -> 
     ensures moved { result ≤ length text.now }
     ensures bytes { Appends (W.contents output.old) (W.contents output.new) (take result text.now) }
 {
+    // How many were taken is the answer, so it is counted: a loop over what is left of text would be no plainer.
     let mut taken = 0;
     while taken < text.len() {
         match write(clock, output, &text[taken..]) {
