@@ -87,12 +87,11 @@ pub fn values(q: Cube) -> [f32; 8]
 }
 
 // The value at a corner, and a NaN past corner 7.
-#[tactic(auto, unfolding(crate::specs::Corners::value_at))]
 pub fn value_at(values: &[f32; 8], k: Corner) -> f32
     ensures { result ≡ value_at values.now k.0 }
 {
     let i = k.0 as usize;
-    if i < 8 { values[i] } else { 0.0 / 0.0 }
+    if i < 8 { values[i] } else { f32::NAN }
 }
 
 // The value at the corner that a column has at place `k`.
@@ -102,7 +101,8 @@ pub fn value_in(values: &[f32; 8], column: u64, k: u32) -> f32
     value_at(values, corner_in(column, k))
 }
 
-// Whether no corner is NaN or infinite: x - x is 0 where x is finite, and a NaN elsewhere.
+// Whether no corner is NaN or infinite: x - x is 0 where x is finite, and a NaN elsewhere. One comparison
+// for the eight corners.
 pub fn all_finite(q: Cube) -> bool
     ensures { result ≡ all_finite q }
 {
