@@ -16,6 +16,7 @@ fn ranged(x: f32) -> bool
     (0.000001 <= x) & (x <= 9223372036854775808.0)
 }
 
+// Four values, as in the definition, since `alternates` asks in two orders.
 #[tactic(auto, unfolding(face::specs::Laws::up_and_down))]
 fn up_and_down(a: f32, b: f32, c: f32, d: f32) -> bool
     ensures { result ≡ up_and_down a b c d }
