@@ -1,3 +1,4 @@
+mod Bits
 pub mod Columns
 mod Controls
 pub mod Settling
