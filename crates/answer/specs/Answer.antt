@@ -1,5 +1,7 @@
 -- Document 01, 'Program', with the seven numbers of document 02, Change 10: the answer to one line of the input. Definitions only.
 use Rattle.std.specs.Prelude.{ℕ, ◌≡◌, Bool, true, false, cond, ◌&&◌, List, [], ◌∷◌, ◌++◌, T, eqb, leb}
+use Rattle.std.specs.declared.ops.ControlFlow.{ControlFlow}
+use Rattle.std.specs.declared.ops.ControlFlow.TheVariants.{Continue, Break}
 use Rattle.cube.specs.Bits.{bit_of}
 use Rattle.notes.specs.declared.Notes.{Notes}
 use Rattle.tilings.specs.Plan.{Chosen, empty, no_tiling, tiling, Reached, reach}
@@ -103,3 +105,8 @@ printed number (refusal why) = refused_line why number
 abbrev pub ends : Reply → Bool
 ends (answer text) = false
 ends (refusal why) = true
+
+-- a line of the output goes on, and a refusal ends the run at its line
+abbrev pub flow : ℕ → Reply → ControlFlow ℕ (Unit {0})
+flow number (answer text) = Continue tt
+flow number (refusal why) = Break number

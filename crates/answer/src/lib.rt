@@ -1,137 +1,116 @@
 // The answer to one line of the input: document 01, 'Program', with the seven numbers of document 02, Change 10.
-// `print_choice` prints a choice's line, `put_malformed` the line of refusal 8, `answer_line` answers a line. Inner
-// routines of the text program, which lends them room.
+// `print_choice` prints a choice's line, `put_malformed` the line of refusal 8, `answer_line` answers a line. Each
+// appends its text to a vector. Inner routines of the text program, which lends them room.
 #![tactic(auto)]
 
-ghost use Rattle.std.specs.Prelude.{◌≡◌, true, false, [], ◌∷◌, ◌++◌, ◌+◌, ◌≤◌, ◌<◌, length};
-ghost use Rattle.tilings.specs.Answers.{reached};
+ghost use Rattle.std.specs.Prelude.{◌≡◌, false, true, [], ◌∷◌, ◌++◌, ◌+◌, ◌*◌, ◌≤◌, ◌<◌, length};
+ghost use Rattle.arrayvec.specs.ArrayVec.{array_vec_len};
+ghost use Rattle.cube.specs.Refusals.{refusal_number};
+ghost use Rattle.notes.specs.declared.Notes.{Notes as Counts};
+ghost use Rattle.tilings.specs.Plan.{reach};
+ghost use Rattle.tilings.specs.Answers.{chosen, reached};
 ghost use Rattle.choice.specs.Choice.{readings_in, said};
-ghost use Rattle.put.specs.Placed.{placed};
 ghost use Rattle.put.specs.Decimal.{decimal};
-ghost use Rattle.answer.specs.Answer.{same, input_names, fields, counts, numbers, choice_line, BareLines};
-ghost use Rattle.answer.specs.Answer.{refused_line, choice_reply, reply_to, printed, ends};
-ghost use Rattle.answer.specs.Room.{line_room, counts_room, choice_room, names_more};
+ghost use Rattle.line.specs.Line.{parse_line};
+ghost use Rattle.answer.specs.Answer.{same, input_names, fields, numbers, choice_line, BareLines};
+ghost use Rattle.answer.specs.Answer.{refused_line, choice_reply, cube_reply, reply_to, printed, ends, flow};
+ghost use Rattle.answer.specs.Room.{line_room, choice_room, names_more};
 
+use arrayvec::ArrayVec;
 use cube::Refusal;
-use notes::Notes;
+use std::ops::ControlFlow;
 use tilings::{Choice, Counted};
 
-// The place after what was printed, and whether it was a refusal.
-#[derive(Clone, Copy)]
-pub struct Printed {
-    pub at: usize,
-    pub over: bool,
-}
-
 // A number, and a byte after it.
-fn put_field(n: u8, after: u8, out: &mut [u8], at: usize) -> usize
-    requires { at + 4 ≤ length out.old }
-    ensures place { (result ≡ at + length (decimal n ++ (after ∷ []))) × (result ≤ at + 4) }
-    ensures text { out.new ≡ placed out.old at (decimal n ++ (after ∷ [])) }
+fn put_field<const CAP: usize>(n: u8, after: u8, out: &mut ArrayVec<u8, CAP>)
+    requires { array_vec_len out.old + 4 ≤ CAP }
+    ensures text { out.new.items ≡ out.old.items ++ (decimal n ++ (after ∷ [])) }
+    ensures room { array_vec_len out.new ≤ array_vec_len out.old + 4 }
 {
-    let i = put::small(n, out, at);
-    put::byte(after, out, i)
+    put::small(n, out);
+    out.push(after);
 }
 
-// What was counted, single spaces, and a newline.
-fn put_counts(notes: Notes, out: &mut [u8], at: usize) -> usize
-    requires { (at + counts_room ≤ length out.old) × (notes.readings ≤ 255) }
-    ensures place { (result ≡ at + length (fields (counts notes))) × (result ≤ at + counts_room) }
-    ensures text { out.new ≡ placed out.old at (fields (counts notes)) }
+// Numbers, single spaces, and a newline behind the last.
+fn put_fields<const CAP: usize>(numbers: &[u8], last: u8, out: &mut ArrayVec<u8, CAP>)
+    requires { array_vec_len out.old + 4 * (length numbers.now + 1) ≤ CAP }
+    ensures text { out.new.items ≡ out.old.items ++ fields (numbers.now ++ (last ∷ [])) }
+    ensures room { array_vec_len out.new ≤ array_vec_len out.old + 4 * (length numbers.now + 1) }
 {
-    let i = put_field(notes.unsettled, b' ', out, at);
-    let j = put_field(notes.unmatched, b' ', out, i);
-    put_field(notes.readings as u8, b'\n', out, j)
-}
-
-// Four numbers and what was counted, likewise.
-fn put_fields(a: u8, b: u8, c: u8, d: u8, notes: Notes, out: &mut [u8], at: usize) -> usize
-    requires { (at + choice_room ≤ length out.old) × (notes.readings ≤ 255) }
-    ensures place { (result ≡ at + length (fields (numbers a b c d notes))) × (result ≤ at + choice_room) }
-    ensures text { out.new ≡ placed out.old at (fields (numbers a b c d notes)) }
-{
-    let i = put_field(a, b' ', out, at);
-    let j = put_field(b, b' ', out, i);
-    let k = put_field(c, b' ', out, j);
-    let l = put_field(d, b' ', out, k);
-    put_counts(notes, out, l)
-}
-
-// The line of a refusal's number at a line of the input.
-fn put_refused(why: u8, number: u64, out: &mut [u8], at: usize) -> usize
-    requires { at + line_room ≤ length out.old }
-    ensures place { (result ≡ at + length (refused_line why number)) × (result ≤ at + line_room) }
-    ensures text { out.new ≡ placed out.old at (refused_line why number) }
-{
-    let i = put::bytes(b"refused ", out, at);
-    let j = put_field(why, b' ', out, i);
-    let k = put::decimal(number, out, j);
-    put::byte(b'\n', out, k)
-}
-
-// The line of a malformed line's refusal.
-pub fn put_malformed(number: u64, out: &mut [u8], at: usize) -> usize
-    requires { at + line_room ≤ length out.old }
-    ensures place { (result ≡ at + length (refused_line 8 number)) × (result ≤ at + line_room) }
-    ensures text { out.new ≡ placed out.old at (refused_line 8 number) }
-{
-    put_refused(cube::number(Refusal::Malformed), number, out, at)
-}
-
-fn answered(at: usize) -> Printed
-    ensures { (result.at ≡ at) × (result.over ≡ false) }
-{
-    Printed {
-        at: at,
-        over: false,
+    for &n in numbers {
+        put_field(n, b' ', out);
     }
+    put_field(last, b'\n', out);
 }
 
-fn refused(at: usize) -> Printed
-    ensures { (result.at ≡ at) × (result.over ≡ true) }
+// The numbers of a tiling; empty is zeros, and no tiling is 255 with the configuration and the sub-configuration.
+fn numbers_of(choice: Choice) -> (u8, u8, u8, u8)
+    ensures { (counted : Counts) → choice_line (reach (chosen choice) counted) ≡ fields (numbers result.0 result.1 result.2 result.3 counted) }
 {
-    Printed { at: at, over: true }
+    match choice {
+        Choice::Empty => (0, 0, 0, 0),
+        Choice::Untiled(c, sub) => (255, c, sub, 0),
+        Choice::Tiled(code, row, column, centre) => (code, row, column, centre as u8),
+    }
 }
 
 // The line of a choice.
-fn put_choice(r: Counted, out: &mut [u8], at: usize) -> usize
-    requires { (at + choice_room ≤ length out.old) × (r.notes.readings ≤ 255) }
-    ensures place { (result ≡ at + length (choice_line (reached r))) × (result ≤ at + choice_room) }
-    ensures text { out.new ≡ placed out.old at (choice_line (reached r)) }
+fn put_choice<const CAP: usize>(r: Counted, out: &mut ArrayVec<u8, CAP>)
+    requires { (array_vec_len out.old + choice_room ≤ CAP) × (r.notes.readings ≤ 255) }
+    ensures text { out.new.items ≡ out.old.items ++ choice_line (reached r) }
+    ensures room { array_vec_len out.new ≤ array_vec_len out.old + choice_room }
 {
-    let choice = r.choice;
+    let (a, b, c, d) = numbers_of(r.choice);
     let notes = r.notes;
-    match choice {
-        Choice::Empty => put_fields(0, 0, 0, 0, notes, out, at),
-        Choice::Untiled(c, sub) => put_fields(255, c, sub, 0, notes, out, at),
-        Choice::Tiled(code, row, column, centre) => put_fields(
-            code,
-            row,
-            column,
-            centre as u8,
-            notes,
-            out,
-            at,
-        ),
-    }
+    put_fields(
+        &[a, b, c, d, notes.unsettled, notes.unmatched],
+        notes.readings as u8,
+        out,
+    );
 }
 
-// The answer for a cube at a line of the input.
-pub fn print_choice(
+// The line of a refusal at a line of the input.
+fn put_refused<const CAP: usize>(why: Refusal, number: u64, out: &mut ArrayVec<u8, CAP>)
+    requires { array_vec_len out.old + line_room ≤ CAP }
+    ensures text { out.new.items ≡ out.old.items ++ refused_line (refusal_number why) number }
+    ensures room { array_vec_len out.new ≤ array_vec_len out.old + line_room }
+{
+    put::bytes(b"refused ", out);
+    put_field(cube::number(why), b' ', out);
+    put::decimal(number, out);
+    out.push(b'\n');
+}
+
+// The line of a malformed line's refusal.
+pub fn put_malformed<const CAP: usize>(number: u64, out: &mut ArrayVec<u8, CAP>)
+    requires { array_vec_len out.old + line_room ≤ CAP }
+    ensures text { out.new.items ≡ out.old.items ++ refused_line 8 number }
+    ensures room { array_vec_len out.new ≤ array_vec_len out.old + line_room }
+{
+    put_refused(Refusal::Malformed, number, out);
+}
+
+// The answer for a cube at a line of the input. A refusal ends the run at that line.
+pub fn print_choice<const CAP: usize>(
     answer: Result<Counted, Refusal>,
     number: u64,
-    out: &mut [u8],
-    at: usize,
-) -> Printed
-    requires { (at + line_room ≤ length out.old) × (readings_in (said answer) ≤ 255) }
-    ensures place { result.at ≡ at + length (printed number (choice_reply (said answer))) }
-    ensures end { result.over ≡ ends (choice_reply (said answer)) }
-    ensures text { out.new ≡ placed out.old at (printed number (choice_reply (said answer))) }
-    ensures room { (result.at ≤ at + line_room) × (result.over ≡ false → result.at ≤ at + choice_room) }
+    out: &mut ArrayVec<u8, CAP>,
+) -> ControlFlow<u64>
+    requires { (array_vec_len out.old + line_room ≤ CAP) × (readings_in (said answer) ≤ 255) }
+    ensures text { out.new.items ≡ out.old.items ++ printed number (choice_reply (said answer)) }
+    ensures end { result ≡ flow number (choice_reply (said answer)) }
+    ensures room { (array_vec_len out.new ≤ array_vec_len out.old + line_room)
+        × (ends (choice_reply (said answer)) ≡ false → array_vec_len out.new ≤ array_vec_len out.old + choice_room) }
 {
     match answer {
-        Ok(r) => answered(put_choice(r, out, at)),
-        Err(why) => refused(put_refused(cube::number(why), number, out, at)),
+        Ok(r) => {
+            put_choice(r, out);
+            ControlFlow::Continue(())
+        }
+        Err(why) => {
+            put_refused(why, number, out);
+            ControlFlow::Break(number)
+        }
     }
 }
 
@@ -143,32 +122,57 @@ fn is_names(line: &[u8]) -> bool
     line == names
 }
 
+// The answer for the cube of a line. Only a long line has one.
+fn cube_answer(line: &[u8]) -> Result<Counted, Refusal>
+    ensures reply { choice_reply (said result) ≡ cube_reply (parse_line line.now) }
+    ensures readings { readings_in (said result) ≤ 255 }
+    ensures long { ends (choice_reply (said result)) ≡ false → 74 < length line.now }
+{
+    let Some(parsed) = line::parse_line(line) else {
+        return Err(Refusal::Malformed);
+    };
+    choice::handle_cube(parsed.case, parsed.configuration, parsed.cube)
+}
+
+// Line 1 names the fields.
+fn answer_names<const CAP: usize>(
+    line: &[u8],
+    number: u64,
+    out: &mut ArrayVec<u8, CAP>,
+) -> ControlFlow<u64>
+    requires { (array_vec_len out.old + line_room ≤ CAP) × (number ≤ 1) }
+    ensures text { out.new.items ≡ out.old.items ++ printed number (reply_to number line.now) }
+    ensures end { result ≡ flow number (reply_to number line.now) }
+    ensures room { (array_vec_len out.new ≤ array_vec_len out.old + line_room)
+        × (ends (reply_to number line.now) ≡ false → array_vec_len out.new ≤ array_vec_len out.old + length line.now + names_more) }
+{
+    if !is_names(line) {
+        return print_choice(Err(Refusal::Malformed), number, out);
+    }
+    put::bytes(
+        b"code row column centre unsettled unmatched readings\n",
+        out,
+    );
+    ControlFlow::Continue(())
+}
+
 // A line of the input without its newline: line 1 names the fields.
-pub fn answer_line(line: &[u8], number: u64, out: &mut [u8], at: usize) -> Printed
-    requires { at + line_room ≤ length out.old }
-    ensures place { result.at ≡ at + length (printed number (reply_to number line.now)) }
-    ensures end { result.over ≡ ends (reply_to number line.now) }
-    ensures text { out.new ≡ placed out.old at (printed number (reply_to number line.now)) }
-    ensures room { (result.at ≤ at + line_room) × (result.over ≡ false → (result.at ≤ at + length line.now + names_more) × (1 < number → result.at ≤ at + length line.now)) }
+pub fn answer_line<const CAP: usize>(
+    line: &[u8],
+    number: u64,
+    out: &mut ArrayVec<u8, CAP>,
+) -> ControlFlow<u64>
+    requires { array_vec_len out.old + line_room ≤ CAP }
+    ensures text { out.new.items ≡ out.old.items ++ printed number (reply_to number line.now) }
+    ensures end { result ≡ flow number (reply_to number line.now) }
+    ensures room { (array_vec_len out.new ≤ array_vec_len out.old + line_room)
+        × (ends (reply_to number line.now) ≡ false
+        → (array_vec_len out.new ≤ array_vec_len out.old + length line.now + names_more)
+        × (1 < number → array_vec_len out.new ≤ array_vec_len out.old + length line.now)) }
     ensures bare { BareLines }
 {
     if number <= 1 {
-        if is_names(line) {
-            return answered(put::bytes(
-                b"code row column centre unsettled unmatched readings\n",
-                out,
-                at,
-            ));
-        }
-        return refused(put_malformed(number, out, at));
+        return answer_names(line, number, out);
     }
-    let Some(parsed) = line::parse_line(line) else {
-        return refused(put_malformed(number, out, at));
-    };
-    print_choice(
-        choice::handle_cube(parsed.case, parsed.configuration, parsed.cube),
-        number,
-        out,
-        at,
-    )
+    print_choice(cube_answer(line), number, out)
 }

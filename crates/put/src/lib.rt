@@ -1,56 +1,41 @@
-// Text put at a place of a slice: bytes, a run of bytes, and numbers in decimal digits. Each function
-// answers the place after what it put. Inner routines of the text program. Public: `byte`, `bytes`,
-// `decimal`, `small`, `to_front`.
+// Text appended to a vector of bytes: a run of bytes, and numbers in decimal digits; and bytes moved to the
+// front of a slice. Inner routines of the text program. Public: `bytes`, `decimal`, `small`, `to_front`.
 #![tactic(auto)]
 
-ghost use Rattle.std.specs.Prelude.{◌≡◌, [], ◌∷◌, ◌+◌, ◌-◌, ◌≤◌, ◌<◌, length, take, drop};
+ghost use Rattle.std.specs.Prelude.{◌≡◌, ◌+◌, ◌-◌, ◌≤◌, ◌++◌, length, take, drop};
+ghost use Rattle.arrayvec.specs.ArrayVec.{array_vec_len};
 ghost use Rattle.put.specs.Placed.{placed};
 ghost use Rattle.put.specs.Decimal.{decimal};
 
-#[tactic(auto, using(crate::proofs::Placed::set_placed))]
-pub fn byte(b: u8, out: &mut [u8], at: usize) -> usize
-    requires { at < length out.old }
-    ensures place { result ≡ at + 1 }
-    ensures text { out.new ≡ placed out.old at (b ∷ []) }
+use arrayvec::ArrayVec;
+
+pub fn bytes<const CAP: usize>(text: &[u8], out: &mut ArrayVec<u8, CAP>)
+    requires { array_vec_len out.old + length text.now ≤ CAP }
+    ensures { out.new.items ≡ out.old.items ++ text.now }
 {
-    out[at] = b;
-    at + 1
+    let _ = out.try_extend_from_slice(text);
 }
 
-#[tactic(auto, using(crate::proofs::Placed::copied))]
-pub fn bytes(text: &[u8], out: &mut [u8], at: usize) -> usize
-    requires { at + length text.now ≤ length out.old }
-    ensures place { result ≡ at + length text.now }
-    ensures text { out.new ≡ placed out.old at text.now }
+#[tactic(auto, using(crate::proofs::Digits::decimal_is))]
+pub fn decimal<const CAP: usize>(n: u64, out: &mut ArrayVec<u8, CAP>)
+    requires { array_vec_len out.old + length (decimal n) ≤ CAP }
+    ensures { out.new.items ≡ out.old.items ++ decimal n }
 {
-    let end = at + text.len();
-    out[at..end].copy_from_slice(text);
-    end
-}
-
-// The function calls itself for the higher digits.
-pub fn decimal(n: u64, out: &mut [u8], at: usize) -> usize
-    requires { at + length (decimal n) ≤ length out.old }
-    ensures place { result ≡ at + length (decimal n) }
-    ensures text { out.new ≡ placed out.old at (decimal n) }
-{
-    if n < 10 {
-        return byte(b'0' + n as u8, out, at);
-    }
-    let last = decimal(n / 10, out, at);
-    byte(b'0' + (n % 10) as u8, out, last)
+    let mut digits = itoa::Buffer::new();
+    bytes(digits.format(n).as_bytes(), out);
 }
 
 // A number of a choice; most have one digit.
-pub fn small(n: u8, out: &mut [u8], at: usize) -> usize
-    requires { at + 3 ≤ length out.old }
-    ensures place { (result ≡ at + length (decimal n)) × (result ≤ at + 3) }
-    ensures text { out.new ≡ placed out.old at (decimal n) }
+pub fn small<const CAP: usize>(n: u8, out: &mut ArrayVec<u8, CAP>)
+    requires { array_vec_len out.old + 3 ≤ CAP }
+    ensures text { out.new.items ≡ out.old.items ++ decimal n }
+    ensures room { array_vec_len out.new ≤ array_vec_len out.old + 3 }
 {
     if n < 10 {
-        return byte(b'0' + n, out, at);
+        out.push(b'0' + n);
+        return;
     }
-    decimal(n as u64, out, at)
+    decimal(n as u64, out);
 }
 
 // Moves the bytes from `from` up to `to` to the front, and answers how many they are.

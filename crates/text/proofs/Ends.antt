@@ -2,47 +2,32 @@
 use mathlib.Core.Path.{◌≡◌, refl, sym, ap, ◌∙◌}
 use mathlib.Core.Bool.{Bool, true, false, cond, ◌&&◌}
 use mathlib.Core.List.{List, [], ◌∷◌, ◌++◌, append-nil}
-use Prim.Native.Nat.{ℕ, ◌+◌, ◌-◌, ◌≤◌, ◌<◌}
+use Prim.Native.Nat.{ℕ, ◌-◌, ◌≤◌, ◌<◌}
 use native.Mathlib.Omega.{arith}
 use lib.Dec.{eqb, leb, ltb, eqb-suc-zero}
-use lib.ListN.{length, take, drop, length-drop}
-use lib.Seq.{drop-length}
+use lib.ListN.{length, drop, length-drop}
 use borrow.Author.Tests.{le-leb, lt-leb}
-use Rattle.put.specs.Placed.{placed}
-use Rattle.put.proofs.Placed.{placed_nothing}
-use Rattle.answer.specs.Answer.{refused_line}
-use Rattle.answer.specs.Room.{line_room}
+use Rattle.answer.specs.Answer.{refused_word, refused_line}
 use Rattle.text.specs.Run.{is_empty, at_end}
 use Rattle.text.specs.Block.{block, stopped, behind, block_from}
-use Rattle.text.proofs.Placed.{put_head, put_rest}
 
 -- ---- the part line
 
-module _ (input : List ℕ) (number at : ℕ) (out : List ℕ) (put : ℕ) (room : put ≤ length out) where
-  pub part_refused : (r : ℕ) (exit : List ℕ) → 82 ≤ length input - at
-      → r ≡ put + length (refused_line 8 number) → exit ≡ placed out put (refused_line 8 number)
-      → (block (take r exit) (drop (length input) input) number true ≡ behind (take put out) (block_from number (drop at input) []))
-      × ((put ≤ r) × (drop r exit ≡ drop r out))
+module _ (input : List ℕ) (number at : ℕ) (out : List ℕ) where
+  pub part_refused : 82 ≤ length input - at → (exit : List ℕ) → exit ≡ out ++ refused_line 8 number
+      → block exit [] number true ≡ behind out (block_from number (drop at input) [])
   unfolding block_from
-  part_refused r exit h place is =
-      let text : List ℕ = refused_line 8 number in
-      let long : leb 82 (length (drop at input)) ≡ true = le-leb 82 (length (drop at input)) (omega (arith, length-drop at input)) in (
-        ap (λ (w : List ℕ). block w (drop (length input) input) number true) (put_head out exit text put r room place is)
-            ∙ ap (λ (l : List ℕ). block (take put out ++ text) l number true) (drop-length input)
-            ∙ ap (λ (t : Bool). behind (take put out) (cond t (stopped 8 number) (block [] (drop at input) number false))) (sym long),
-        (omega arith, put_rest out exit text put r room place is),
-      )
+  part_refused r exit is =
+      let long : leb 82 (length (drop at input)) ≡ true = le-leb 82 (length (drop at input)) (omega (arith, length-drop at input)) in
+      ap (λ (w : List ℕ). block w [] number true) is
+      ∙ ap (λ (t : Bool). behind out (cond t (stopped 8 number) (block [] (drop at input) number false))) (sym long)
 
-  pub part_left : length input - at < 82
-      → (block (take put out) (drop at input) number false ≡ behind (take put out) (block_from number (drop at input) []))
-      × ((put ≤ put) × (drop put out ≡ drop put out))
+  pub part_left : length input - at < 82 → block out (drop at input) number false ≡ behind out (block_from number (drop at input) [])
   unfolding block_from
   part_left h =
-      let short : leb 82 (length (drop at input)) ≡ false = lt-leb 82 (length (drop at input)) (omega (arith, length-drop at input)) in (
-        ap (λ (w : List ℕ). block w (drop at input) number false) (sym (append-nil (take put out)))
-            ∙ ap (λ (t : Bool). behind (take put out) (cond t (stopped 8 number) (block [] (drop at input) number false))) (sym short),
-        (omega arith, refl),
-      )
+      let short : leb 82 (length (drop at input)) ≡ false = lt-leb 82 (length (drop at input)) (omega (arith, length-drop at input)) in
+      ap (λ (w : List ℕ). block w (drop at input) number false) (sym (append-nil out))
+      ∙ ap (λ (t : Bool). behind out (cond t (stopped 8 number) (block [] (drop at input) number false))) (sym short)
 
 -- ---- the input's end
 
@@ -55,17 +40,13 @@ unfolding at_end
 at_end_lem part number t e =
     ap (λ (u : Bool). cond u [] (refused_line 8 number)) (ap (λ (u : Bool). u && ltb 1 number) (sym (none_is_empty part)) ∙ e)
 
-module _ (part : List ℕ) (number : ℕ) (out : List ℕ) where
-  pub ends_whole : (eqb (length part) 0 && ltb 1 number) ≡ true
-      → ((0 ≡ length (at_end number part)) × (0 ≤ line_room)) × (out ≡ placed out 0 (at_end number part))
-  ends_whole h =
-      let e = at_end_lem part number true h in
-      ((sym (ap length e), omega arith), sym (ap (placed out 0) e ∙ placed_nothing out 0))
+module _ (part : List ℕ) (number : ℕ) where
+  pub ends_whole : (empty : Bool) → empty ≡ eqb (length part) 0 → (empty && ltb 1 number) ≡ true → at_end number part ≡ []
+  ends_whole empty e h = at_end_lem part number true (ap (λ (u : Bool). u && ltb 1 number) (sym e) ∙ h)
 
-  pub ends_refused : (eqb (length part) 0 && ltb 1 number) ≡ false → (r : ℕ) (exit : List ℕ)
-      → (r ≡ 0 + length (refused_line 8 number)) × (r ≤ 0 + line_room) → exit ≡ placed out 0 (refused_line 8 number)
-      → ((r ≡ length (at_end number part)) × (r ≤ line_room)) × (exit ≡ placed out 0 (at_end number part))
-  ends_refused h r exit place text =
-      let e = at_end_lem part number false h in
-      let l = ap length e in
-      ((omega arith, omega arith), text ∙ ap (placed out 0) (sym e))
+  pub ends_refused : (empty : Bool) → empty ≡ eqb (length part) 0 → (empty && ltb 1 number) ≡ false → at_end number part ≡ refused_line 8 number
+  ends_refused empty e h = at_end_lem part number false (ap (λ (u : Bool). u && ltb 1 number) (sym e) ∙ h)
+
+pub refused_some : (why number : ℕ) → 1 ≤ length (refused_line why number)
+unfolding refused_line refused_word
+refused_some why number = omega arith

@@ -1,6 +1,5 @@
 pub mod Lines
 pub mod Overlong
 pub mod Joins
-pub mod Placed
 pub mod Ends
 pub mod Turns

@@ -3,82 +3,83 @@
 // program mc33, which lends them room.
 #![tactic(auto)]
 
-ghost use Rattle.std.specs.Prelude.{◌≡◌, [], ◌+◌, ◌≤◌, ◌<◌, ◌^◌, length, take, drop};
-ghost use Rattle.put.specs.Placed.{placed};
+ghost use Rattle.std.specs.Prelude.{◌≡◌, [], ◌++◌, ◌+◌, ◌≤◌, ◌<◌, ◌^◌, length, drop};
+ghost use Rattle.std.specs.ControlFlow.{MatchControlFlow};
+ghost use Rattle.arrayvec.specs.ArrayVec.{array_vec_len};
 ghost use Rattle.answer.specs.Room.{line_room};
 ghost use Rattle.text.specs.Run.{at_end};
-ghost use Rattle.text.specs.Block.{block_room, block, behind, block_from, block_of, Composes, BlocksJoin};
+ghost use Rattle.text.specs.Block.{block_room, behind, block_from, block_of, Composes, BlocksJoin};
+ghost use Rattle.text.specs.Left.{block_by};
 
-// How much was put, where the part line that is left begins, its number, and whether it was the end.
+use arrayvec::ArrayVec;
+use std::ops::ControlFlow;
+
+// The part line that a block leaves: where it begins, and its number.
 #[derive(Clone, Copy)]
-pub struct Answered {
-    pub put: usize,
+pub struct PartLine {
     pub left: usize,
     pub number: u64,
-    pub over: bool,
 }
 
-// The part line from `at` on: no line is longer than 81 bytes.
-fn part_line(input: &[u8], at: usize, number: u64, out: &mut [u8], put: usize) -> Answered
-    requires { (at ≤ length input.now) × (put + line_room ≤ length out.old) }
-    ensures block { block (take result.put out.new) (drop result.left input.now) result.number result.over ≡ behind (take put out.old) (block_from number (drop at input.now) []) }
-    ensures rest { (put ≤ result.put) × (drop result.put out.new ≡ drop result.put out.old) }
-    ensures bounds { (result.put ≤ put + line_room) × ((result.left ≤ length input.now) × (result.number ≡ number)) }
+// The part line from `at` on: no line is longer than 81 bytes. A refusal is the end, at its line.
+fn part_line<const CAP: usize>(
+    input: &[u8],
+    at: usize,
+    number: u64,
+    out: &mut ArrayVec<u8, CAP>,
+) -> ControlFlow<u64, PartLine>
+    requires { (at ≤ length input.now) × (array_vec_len out.old + line_room ≤ CAP) }
+    ensures block { block_by out.new.items input.now result ≡ behind out.old.items (block_from number (drop at input.now) []) }
+    ensures bounds { MatchControlFlow result (λ part. (part.left ≤ length input.now) × (part.number ≡ number)) (λ line. line ≡ number) }
 {
     if 82 <= input.len() - at {
-        return Answered {
-            put: answer::put_malformed(number, out, put),
-            left: input.len(),
-            number: number,
-            over: true,
-        };
+        answer::put_malformed(number, out);
+        return ControlFlow::Break(number);
     }
-    Answered {
-        put: put,
-        left: at,
-        number: number,
-        over: false,
-    }
+    ControlFlow::Continue(PartLine { left: at, number })
 }
 
-// The whole lines of a block that begins with line `number`.
-pub fn answer_block(input: &[u8], number: u64, out: &mut [u8]) -> Answered
-    requires block_room_in_bounds { length input.now + block_room ≤ length out.old }
+// The whole lines of a block that begins with line `number`. A refusal is the end, at its line.
+pub fn answer_block<const CAP: usize>(
+    input: &[u8],
+    number: u64,
+    out: &mut ArrayVec<u8, CAP>,
+) -> ControlFlow<u64, PartLine>
+    requires block_room_in_bounds { array_vec_len out.old + length input.now + block_room ≤ CAP }
     requires input_bound { number + length input.now < 2 ^ 64 }
-    ensures block { block (take result.put out.new) (drop result.left input.now) result.number result.over ≡ block_of number input.now }
-    ensures rest { drop result.put out.new ≡ drop result.put out.old }
-    ensures bounds { (result.put ≤ length out.new) × ((result.left ≤ length input.now) × (result.number ≤ number + length input.now)) }
+    ensures block { block_by out.new.items input.now result ≡ behind out.old.items (block_of number input.now) }
+    ensures bounds { MatchControlFlow result
+        (λ part. (part.left ≤ length input.now) × (part.number ≤ number + length input.now))
+        (λ line. line ≤ number + length input.now) }
     ensures composes { Composes number input.now }
 {
     let mut at = 0;
-    let mut put = 0;
     let mut n = number;
     while let Some(end) = scan::find(input, at, input.len(), b'\n') {
-        let said = answer::answer_line(&input[at..end], n, out, put);
-        put = said.at;
-        if said.over {
-            return Answered {
-                put: put,
-                left: input.len(),
-                number: n,
-                over: true,
-            };
-        }
+        answer::answer_line(&input[at..end], n, out)?;
         at = end + 1;
         n += 1;
     }
-    part_line(input, at, n, out, put)
+    part_line(input, at, n, out)
 }
 
-// The input's end, in line `number`, of which `part` has come.
-pub fn finish(part: &[u8], number: u64, out: &mut [u8]) -> usize
-    requires { line_room ≤ length out.old }
-    ensures place { (result ≡ length (at_end number part.now)) × (result ≤ line_room) }
-    ensures text { out.new ≡ placed out.old 0 (at_end number part.now) }
+// The input's end, in line `number`, of which `part` has come. A refusal is told by its line.
+pub fn finish<const CAP: usize>(
+    part: &[u8],
+    number: u64,
+    out: &mut ArrayVec<u8, CAP>,
+) -> ControlFlow<u64>
+    requires { array_vec_len out.old + line_room ≤ CAP }
+    ensures text { out.new.items ≡ out.old.items ++ at_end number part.now }
+    ensures room { array_vec_len out.new ≤ array_vec_len out.old + line_room }
+    ensures end { MatchControlFlow result
+        (λ _. at_end number part.now ≡ [])
+        (λ line. (1 ≤ length (at_end number part.now)) × (line ≡ number)) }
     ensures joins { BlocksJoin }
 {
-    if (part.len() == 0) & (1 < number) {
-        return 0;
+    if part.is_empty() & (1 < number) {
+        return ControlFlow::Continue(());
     }
-    answer::put_malformed(number, out, 0)
+    answer::put_malformed(number, out);
+    ControlFlow::Break(number)
 }

@@ -5,7 +5,7 @@ use Rattle.text.proofs.Turns.{Answering}
 use Rattle.text.proofs.answer_block.Given as goal
 
 abbrev pub invariant-loop-end : goal.invariant-loop-end
-invariant-loop-end l = Answering l.input l.number l.initial.out l.out l.at l.put l.n
+invariant-loop-end g l = Answering l.input l.number l.initial.out.items l.out.items l.at l.n
 
 abbrev pub decreases-loop-end : goal.decreases-loop-end
-decreases-loop-end l = length l.input - l.at
+decreases-loop-end g l = length l.input - l.at

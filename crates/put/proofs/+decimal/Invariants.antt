@@ -1,5 +1,0 @@
--- The measure is the number.
-use Rattle.put.proofs.+decimal.Given as goal
-
-abbrev pub decreases-decimal : goal.decreases-decimal
-decreases-decimal l = l.n
