@@ -1,5 +1,5 @@
 -- What a read tells: that it failed, that the input ended, or how many bytes came behind the part line, which stands as it was. Assumes nothing.
-use mathlib.Core.Path.{subst}
+use mathlib.Core.Path.{◌≡◌, sym, subst}
 use mathlib.Core.List.{List, [], ◌∷◌, ◌++◌}
 use mathlib.Core.Logic.{inl, inr}
 use Prim.Native.Nat.{ℕ, ◌+◌, ◌-◌, ◌≤◌}
@@ -22,13 +22,14 @@ some_bytes number part (b ∷ bs) r buf out h x = x
 pub none_came : (s : Part) (r : State) (xs buf out : List ℕ) → Ended s.number (take (s.have - 0) xs) r out → Told (Ok 0) s xs r buf out
 none_came s r xs buf out h = subst (λ (n : ℕ). Ended s.number (take n xs) r out) (sub-zero s.have) h
 
-pub some_came : (s : Part) (r : State) (xs buf out : List ℕ) (n : ℕ) → 1 ≤ n → s.have + n ≤ length xs
-    → Counted s.number r (Kept r buf out (block_of s.number (take (s.have + n) xs))) → Told (Ok n) s xs r buf out
-some_came s r xs buf out n h l x =
+pub some_came : (got : Result ℕ Error) (s : Part) (r : State) (xs buf out : List ℕ) (n : ℕ) → got ≡ Ok n → 1 ≤ n → s.have + n ≤ length xs
+    → Counted s.number r (Kept r buf out (block_of s.number (take (s.have + n) xs))) → Told got s xs r buf out
+some_came got s r xs buf out n g h l x =
     let d = length-drop s.have xs in
     let t = length-take-le n (drop s.have xs) (omega arith) in
-    some_bytes s.number (take s.have xs) (take n (drop s.have xs)) r buf out (omega arith)
-    (subst (λ (w : List ℕ). Counted s.number r (Kept r buf out (block_of s.number w))) (take-add s.have n xs) x)
+    let came = some_bytes s.number (take s.have xs) (take n (drop s.have xs)) r buf out (omega arith)
+    (subst (λ (w : List ℕ). Counted s.number r (Kept r buf out (block_of s.number w))) (take-add s.have n xs) x) in
+    subst (λ (o : Result ℕ Error). Told o s xs r buf out) (sym g) came
 
 -- what was read went behind the part line
 pub behind : (s : Part) (r : State) (xs buf out more : List ℕ) (got : Result ℕ Error) → s.have ≤ length xs → Told got s (take s.have xs ++ more) r buf out

@@ -1,53 +1,67 @@
 -- What is kept is what the block left: its bytes, at most 81, moved to the front; and what was put is what it wrote. Assumes nothing.
-use mathlib.Core.Path.{◌≡◌, refl, sym, ap, ◌∙◌}
-use mathlib.Core.Bool.{Bool, false}
-use mathlib.Core.List.{List}
+use mathlib.Core.Path.{◌≡◌, refl, sym, ap, ◌∙◌, subst}
+use mathlib.Core.List.{List, []}
 use Prim.Native.Nat.{ℕ, ◌-◌, ◌≤◌}
 use native.Mathlib.Omega.{arith}
 use lib.ListN.{length, take, drop, length-drop}
 use lib.Seq.{length-take-le}
-use Rattle.std.specs.Prelude.{Some, Ok}
+use Rattle.std.specs.Prelude.{Some, None, Ok}
+use Rattle.std.specs.declared.ops.ControlFlow.{ControlFlow}
+use Rattle.std.specs.declared.ops.ControlFlow.TheVariants.{Continue, Break}
 use Rattle.put.specs.Placed.{placed}
 use Rattle.put.proofs.Placed.{placed_front}
 use Rattle.line.proofs.Cuts.{drop_take}
-use Rattle.text.specs.Block.{Block, block, block_of}
+use Rattle.text.specs.declared.PartLine.{PartLine}
+use Rattle.text.specs.Block.{Block, behind, block_of}
+use Rattle.text.specs.Left.{block_by}
 use Rattle.text.proofs.Joins.{left_short}
+use Rattle.mc33.specs.declared.Piece.{Piece}
 use Rattle.mc33.specs.declared.part.Part.{Part}
-use Rattle.mc33.specs.Kept.{Begins, Kept}
+use Rattle.mc33.specs.Kept.{RefusedAt, Kept}
 
--- what was put stands at the front
-front : (out text : List ℕ) (put : ℕ) → put ≤ length out → take put out ≡ text → Begins out text
-front out text put h e = ap (λ (n : ℕ). take n out) (ap length (sym e) ∙ length-take-le put out h) ∙ e
+written_by : (out input : List ℕ) (done : ControlFlow ℕ PartLine) → (block_by out input done).written ≡ out
+written_by out input (Continue part) = refl
+written_by out input (Break line) = refl
 
-pub placed_begins : (xs ys text : List ℕ) → ys ≡ placed xs 0 text → Begins ys text
-placed_begins xs ys text e = ap (take (length text)) e ∙ placed_front xs text (length text) refl
+-- the first n bytes came, and nothing was put before what their block comes to
+module _ (xs out before : List ℕ) (first n : ℕ) (done : ControlFlow ℕ PartLine) (z : before ≡ [])
+    (e : block_by out (take n xs) done ≡ behind before (block_of first (take n xs))) where
+  whole : block_by out (take n xs) done ≡ block_of first (take n xs)
+  whole = subst (λ (w : List ℕ). block_by out (take n xs) done ≡ behind w (block_of first (take n xs))) z e
 
--- what was put is what is handed to the write
-pub placed_first : (xs ys text : List ℕ) (put : ℕ) → ys ≡ placed xs 0 text → put ≡ length text → take put ys ≡ text
-placed_first xs ys text put e h = ap (λ (n : ℕ). take n ys) h ∙ placed_begins xs ys text e
+  pub text : out ≡ (block_of first (take n xs)).written
+  text = sym (written_by out (take n xs) done) ∙ ap (λ (x : Block). x.written) whole
 
--- the first n bytes came
-module _ (xs ys out : List ℕ) (first n left number put : ℕ) (over : Bool) (h : left ≤ n) (l : n ≤ length xs) (room : put ≤ length out)
-    (e : block (take put out) (drop left (take n xs)) number over ≡ block_of first (take n xs)) where
-  text : Begins out (block_of first (take n xs)).written
-  text = front out (block_of first (take n xs)).written put room (ap (λ (x : Block). x.written) e)
+  module _ (line : ℕ) (d : done ≡ Break line) where
+    ended : block_by out (take n xs) (Break line) ≡ block_of first (take n xs)
+    ended = subst (λ (c : ControlFlow ℕ PartLine). block_by out (take n xs) c ≡ block_of first (take n xs)) d whole
 
-  pub short : n - left ≤ 81
-  short = omega (arith, ap (λ (x : Block). length x.left) e, left_short first (take n xs), length-drop left (take n xs), length-take-le n xs l)
+    pub refused : RefusedAt (Piece.Block first) (take n xs) line
+    refused = (sym (ap (λ (x : Block). x.over) ended), ap (λ (x : Block). x.number) ended)
 
-  pub kept : (s : Part) → over ≡ false → s.number ≡ number → s.have ≡ n - left → ys ≡ placed xs 0 (take (n - left) (drop left xs))
-      → Kept (Ok (Some s)) ys out (block_of first (take n xs))
-  kept s o k a b = record {
-    text = text;
-    left = (
-      sym (ap (λ (x : Block). x.over) e) ∙ o,
-      (
-        ap (λ (m : ℕ). take m ys) a
-            ∙ ap (take (n - left)) b
-            ∙ placed_front xs (take (n - left) (drop left xs)) (n - left) (length-take-le (n - left) (drop left xs) (omega (arith, length-drop left xs)))
-            ∙ sym (drop_take left n xs)
-            ∙ ap (λ (x : Block). x.left) e,
-        k ∙ ap (λ (x : Block). x.number) e,
-      ),
-    );
-  }
+    pub kept_none : (ys : List ℕ) → Kept (Ok None) ys out (block_of first (take n xs))
+    kept_none ys = record { text = text; left = sym (ap (λ (x : Block). x.over) ended) }
+
+  module _ (part : PartLine) (d : done ≡ Continue part) (h : part.left ≤ length (take n xs)) (l : n ≤ length xs) where
+    left : block_by out (take n xs) (Continue part) ≡ block_of first (take n xs)
+    left = subst (λ (c : ControlFlow ℕ PartLine). block_by out (take n xs) c ≡ block_of first (take n xs)) d whole
+
+    pub short : n - part.left ≤ 81
+    short = omega (arith, ap (λ (x : Block). length x.left) left, left_short first (take n xs), length-drop part.left (take n xs), length-take-le n xs l)
+
+    pub kept : (s : Part) (ys : List ℕ) → s.number ≡ part.number → s.have ≡ n - part.left → ys ≡ placed xs 0 (take (n - part.left) (drop part.left xs))
+        → Kept (Ok (Some s)) ys out (block_of first (take n xs))
+    kept s ys k a b = record {
+      text = text;
+      left = (
+        sym (ap (λ (x : Block). x.over) left),
+        (
+          ap (λ (m : ℕ). take m ys) a
+              ∙ ap (take (n - part.left)) b
+              ∙ placed_front xs (take (n - part.left) (drop part.left xs)) (n - part.left) (length-take-le (n - part.left) (drop part.left xs) (omega (arith, length-drop part.left xs)))
+              ∙ sym (drop_take part.left n xs)
+              ∙ ap (λ (x : Block). x.left) left,
+          k ∙ ap (λ (x : Block). x.number) left,
+        ),
+      );
+    }

@@ -23,10 +23,6 @@ OrFailed why r P = (r ≡ Err why) ⊎ P
 abbrev pub Counted : ℕ → State → Type 0 → Type 0
 Counted number r P = ((most_lines ≤ number) × (r ≡ Err Failure.Count)) ⊎ ((number < most_lines) × OrFailed Failure.Write r P)
 
--- the text stands at the front of xs
-abbrev pub Begins : List ℕ → List ℕ → Type 0
-Begins xs text = take (length text) xs ≡ text
-
 -- what is written for a block of line `number`, or at the input's end in line `number`
 abbrev pub comes_to : Piece → List ℕ → List ℕ
 comes_to (Piece.End number) part = at_end number part
@@ -43,14 +39,14 @@ Left (Ok (Some s)) buf x = (x.over ≡ false) × ((take s.have buf ≡ x.left) �
 Left (Ok None) buf x = x.over ≡ true
 Left (Err why) buf x = ⊥
 
--- after the block x: out begins with what x wrote, and what x left is kept
+-- after the block x: out holds what x wrote, and what x left is kept
 pub record Kept (r : State) (buf out : List ℕ) (x : Block) : Type 0 where
-  pub text : Begins out x.written
+  pub text : out ≡ x.written
   pub left : Left r buf x
 
--- the input ends behind the part line of line `number`: the write failed, or out begins with what the input's end comes to, and the program stops
+-- the input ends behind the part line of line `number`: the write failed, or out holds what the input's end comes to, and the program stops
 abbrev pub Ended : ℕ → List ℕ → State → List ℕ → Type 0
-Ended number part r out = OrFailed Failure.Write r ((r ≡ Ok None) × Begins out (at_end number part))
+Ended number part r out = OrFailed Failure.Write r ((r ≡ Ok None) × (out ≡ at_end number part))
 
 -- what a read put behind the part line of line `number`: none, and the input has ended; or some, and the block is the two together
 abbrev pub Came : List ℕ → ℕ → List ℕ → State → List ℕ → List ℕ → Type 0

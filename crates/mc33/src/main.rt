@@ -14,13 +14,16 @@ ghost use Rattle.mc33.specs.declared.Failure.{Failure};
 ghost use Rattle.mc33.specs.Kept.{comes_to, RefusedAt, Kept, Counted, Ended, Told, Turned};
 ghost use Rattle.mc33.specs.Runs.{Finished};
 
+use arrayvec::ArrayVec;
 use part::Part;
 use std::env::{Env, FillError};
 use std::io;
 use std::io::{IsTerminal, Read, Write};
+use std::ops::ControlFlow;
 use std::time::Clock;
 
-// Room for a block, and for what it comes to.
+// Room for a block, and for what it comes to: fixed memory, and no heap. A block's is an array, and `Part` says how
+// much of it is kept: a read goes behind that, and an `ArrayVec` lends no room past its length.
 const BLOCK: usize = 65536;
 
 const ROOM: usize = 65664;
@@ -94,11 +97,11 @@ impl<C: Clock, R: Read, W: Write, E: Write> Streams<C, R, W, E> {
     fn say_refused(&mut self, line: u64, piece: Piece, input: &[u8])
         requires { RefusedAt piece input.now line }
     {
-        let mut text = [0u8; 64];
-        let digits = put::bytes(b"mc33: refused at line ", &mut text, 0);
-        let end = put::decimal(line, &mut text, digits);
-        let n = put::byte(b'\n', &mut text, end);
-        self.say(&text[..n]);
+        let mut text = ArrayVec::<u8, 64>::new();
+        put::bytes(b"mc33: refused at line ", &mut text);
+        put::decimal(line, &mut text);
+        text.push(b'\n');
+        self.say(text.as_slice());
     }
 
     // Writes what this piece of the input comes to.
@@ -119,24 +122,27 @@ impl<C: Clock, R: Read, W: Write, E: Write> Streams<C, R, W, E> {
         number: u64,
         buf: &mut [u8; BLOCK],
         n: usize,
-        out: &mut [u8; ROOM],
+        out: &mut ArrayVec<u8, ROOM>,
     ) -> Result<Option<Part>, Failure>
         requires { n ≤ length buf.old }
-        ensures { Counted number result (Kept result buf.new out.new (block_of number (take n buf.old))) }
+        ensures { Counted number result (Kept result buf.new out.new.items (block_of number (take n buf.old))) }
     {
         if MOST_LINES <= number {
             return Err(Failure::Count);
         }
+        out.clear();
         let done = text::answer_block(&buf[..n], number, out);
-        let put = done.put;
-        self.write_text(&out[..put], Piece::Block(number), &buf[..n])?;
-        if done.over {
-            self.say_refused(done.number, Piece::Block(number), &buf[..n]);
-            return Ok(None);
-        }
+        self.write_text(out.as_slice(), Piece::Block(number), &buf[..n])?;
+        let part = match done {
+            ControlFlow::Continue(part) => part,
+            ControlFlow::Break(line) => {
+                self.say_refused(line, Piece::Block(number), &buf[..n]);
+                return Ok(None);
+            }
+        };
         Ok(Some(Part {
-            have: put::to_front(buf, done.left, n),
-            number: done.number,
+            have: put::to_front(buf, part.left, n),
+            number: part.number,
         }))
     }
 
@@ -145,14 +151,15 @@ impl<C: Clock, R: Read, W: Write, E: Write> Streams<C, R, W, E> {
         &mut self,
         number: u64,
         part: &[u8],
-        out: &mut [u8; ROOM],
+        out: &mut ArrayVec<u8, ROOM>,
     ) -> Result<Option<Part>, Failure>
-        ensures { Ended number part.now result out.new }
+        ensures { Ended number part.now result out.new.items }
     {
-        let put = text::finish(part, number, out);
-        self.write_text(&out[..put], Piece::End(number), part)?;
-        if put > 0 {
-            self.say_refused(number, Piece::End(number), part);
+        out.clear();
+        let end = text::finish(part, number, out);
+        self.write_text(out.as_slice(), Piece::End(number), part)?;
+        if let ControlFlow::Break(line) = end {
+            self.say_refused(line, Piece::End(number), part);
         }
         Ok(None)
     }
@@ -164,10 +171,10 @@ impl<C: Clock, R: Read, W: Write, E: Write> Streams<C, R, W, E> {
         got: io::Result<usize>,
         part: Part,
         buf: &mut [u8; BLOCK],
-        out: &mut [u8; ROOM],
+        out: &mut ArrayVec<u8, ROOM>,
     ) -> Result<Option<Part>, Failure>
         requires { IfOk got (λ n. part.have + n ≤ length buf.old) }
-        ensures { Told got part buf.old result buf.new out.new }
+        ensures { Told got part buf.old result buf.new out.new.items }
     {
         match got {
             Err(_) => Err(Failure::Read),
@@ -181,16 +188,20 @@ impl<C: Clock, R: Read, W: Write, E: Write> Streams<C, R, W, E> {
         &mut self,
         part: Part,
         buf: &mut [u8; BLOCK],
-        out: &mut [u8; ROOM],
+        out: &mut ArrayVec<u8, ROOM>,
     ) -> Result<Option<Part>, Failure>
-        ensures { Turned part buf.old result buf.new out.new }
+        ensures { Turned part buf.old result buf.new out.new.items }
     {
         let got = waiting::read(&self.clock, &mut self.input, &mut buf[part.have..]);
         self.after_read(got, part, buf, out)
     }
 
     // The turns, from the start on, until the program stops or all turns are used.
-    fn run(&mut self, buf: &mut [u8; BLOCK], out: &mut [u8; ROOM]) -> Result<Option<Part>, Failure>
+    fn run(
+        &mut self,
+        buf: &mut [u8; BLOCK],
+        out: &mut ArrayVec<u8, ROOM>,
+    ) -> Result<Option<Part>, Failure>
         ensures { Finished result buf.new }
     {
         let mut part = Part { have: 0, number: 1 };
@@ -229,7 +240,7 @@ fn main(rt: HostRuntime) {
         );
     }
     let mut buf = [0u8; BLOCK];
-    let mut out = [0u8; ROOM];
+    let mut out = ArrayVec::new();
     if let Err(failure) = streams.run(&mut buf, &mut out) {
         streams.say(failure.line());
     }

@@ -6,5 +6,4 @@ use Rattle.mc33.proofs.Streams.after_read.Goals as goal
 pub returns-in-Ok : goal.returns-in-Ok
 returns-in-Ok g c =
     let a = c.args in
-    let told = some_came a.part c.answer.result a.buf.now c.answer.new.buf c.answer.new.out c.in-Ok.more (grind arith) (grind arith) c.answer.ensures in
-    rw c.in-Ok.is told
+    some_came a.got a.part c.answer.result a.buf.now c.answer.new.buf c.answer.new.out.items c.in-Ok.more c.in-Ok.is (grind arith) (grind arith) c.answer.ensures

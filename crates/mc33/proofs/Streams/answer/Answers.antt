@@ -5,15 +5,16 @@ use Rattle.mc33.proofs.Streams.answer.Goals as goal
 
 pub invariant_of-result : goal.invariant_of-result
 invariant_of-result g c =
-    let x = c.answer_block-done.result in
-    let s = short c.args.buf.now c.to_front.new.buf c.answer_block-done.new.out c.args.number c.args.n x.left x.number x.put x.over (omega arith) (omega arith) (omega arith) c.answer_block-done.ensures.block in
+    let done = c.answer_block-done in
+    let s = short c.args.buf.now done.new.out.items c.clear.new.self.items c.args.number c.args.n done.result c.clear.ensures done.ensures.block
+    c.in-Continue.part c.in-Continue.is c.in-Continue.ensures.bounds.0 (omega arith) in
     record { short = omega arith }
 
 pub returns : goal.returns
 returns g c =
-    let x = c.answer_block-done.result in
+    let done = c.answer_block-done in
     inr (
       omega arith,
-      inr (kept c.args.buf.now c.to_front.new.buf c.answer_block-done.new.out c.args.number c.args.n x.left x.number x.put x.over (omega arith) (omega arith) (omega arith) c.answer_block-done.ensures.block
-          _ c.if-done.false refl c.to_front.ensures.place c.to_front.ensures.text),
+      inr (kept c.args.buf.now done.new.out.items c.clear.new.self.items c.args.number c.args.n done.result c.clear.ensures done.ensures.block
+          c.in-Continue.part c.in-Continue.is c.in-Continue.ensures.bounds.0 (omega arith) _ c.to_front.new.buf refl c.to_front.ensures.place c.to_front.ensures.text),
     )

@@ -12,17 +12,17 @@ pub returns-in_err-next : goal.returns-in_err-next
 returns-in_err-next g c =
     let l = c.loop-turns in
     let e : c.from_residual.result ≡ c.turn.result = search rules in
-    last_turn l._turns l.part.0 l.part.1.0 l.invariant.0 c.turn.result l.buf c.turn.new.buf c.turn.new.out l.invariant.1 c.turn.ensures _ e (grind arith)
+    last_turn l._turns l.part.0 l.part.1.0 l.invariant.0 c.turn.result l.buf c.turn.new.buf c.turn.new.out.items l.invariant.1 c.turn.ensures _ e (grind arith)
 
 pub returns-in-None : goal.returns-in-None
 returns-in-None g c =
     let l = c.loop-turns in
-    last_turn l._turns l.part.0 l.part.1.0 l.invariant.0 c.turn.result l.buf c.turn.new.buf c.turn.new.out l.invariant.1 c.turn.ensures _ (sym (c.in_ok-next.was ∙ ap Ok c.in-None.is)) refl
+    last_turn l._turns l.part.0 l.part.1.0 l.invariant.0 c.turn.result l.buf c.turn.new.buf c.turn.new.out.items l.invariant.1 c.turn.ensures _ (sym (c.in_ok-next.was ∙ ap Ok c.in-None.is)) refl
 
 pub loop-turns-preserved : goal.loop-turns-preserved
 loop-turns-preserved g c =
     let l = c.loop-turns in
-    (c.in-Some.next.short, one_turn l._turns l.part.0 l.part.1.0 l.invariant.0 c.turn.result l.buf c.turn.new.buf c.turn.new.out l.invariant.1 c.turn.ensures _ (sym (c.in_ok-next.was ∙ ap Ok c.in-Some.is)))
+    (c.in-Some.next.short, one_turn l._turns l.part.0 l.part.1.0 l.invariant.0 c.turn.result l.buf c.turn.new.buf c.turn.new.out.items l.invariant.1 c.turn.ensures _ (sym (c.in_ok-next.was ∙ ap Ok c.in-Some.is)))
 
 pub invariant_of-part-2 : goal.invariant_of-part-2
 invariant_of-part-2 g c = record { short = c.loop-turns.invariant.0 }
