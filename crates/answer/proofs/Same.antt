@@ -8,7 +8,7 @@ use lib.Ieee.Bits.{is_true, is_false}
 use lib.ListN.{length}
 use Rattle.std.proofs.Common.{nat_eq}
 use Rattle.std.specs.Cmp.Lexicographic.{pointwise}
-use Rattle.hex_digits.proofs.Digits.{second}
+use Rattle.std.proofs.lemmas.Bool.{and_parts}
 use Rattle.answer.specs.Answer.{same}
 
 pub equal_lengths : (xs ys : List ℕ) → same xs ys ≡ true → length xs ≡ length ys
@@ -16,7 +16,7 @@ unfolding same
 equal_lengths [] [] h = refl
 equal_lengths [] (y ∷ ys) h = cc
 equal_lengths (x ∷ xs) [] h = cc
-equal_lengths (x ∷ xs) (y ∷ ys) h = ap suc (equal_lengths xs ys (second (eqb x y) (same xs ys) h))
+equal_lengths (x ∷ xs) (y ∷ ys) h = ap suc (equal_lengths xs ys (and_parts (eqb x y) (same xs ys) h).1)
 
 pub unequal_lengths : (xs ys : List ℕ) → (length xs ≡ length ys → ⊥) → same xs ys ≡ false
 unequal_lengths xs ys h = is_false (same xs ys) (not_T (same xs ys) (λ t. h (equal_lengths xs ys (is_true (same xs ys) t))))

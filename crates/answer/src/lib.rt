@@ -44,6 +44,7 @@ fn put_fields<const CAP: usize>(numbers: &[u8], last: u8, out: &mut ArrayVec<u8,
 }
 
 // The numbers of a tiling; empty is zeros, and no tiling is 255 with the configuration and the sub-configuration.
+#[tactic(auto, using(crate::proofs::Replies::empty_line, crate::proofs::Replies::untiled_line, crate::proofs::Replies::tiled_line))]
 fn numbers_of(choice: Choice) -> (u8, u8, u8, u8)
     ensures { (counted : Counts) → choice_line (reach (chosen choice) counted) ≡ fields (numbers result.0 result.1 result.2 result.3 counted) }
 {
@@ -115,6 +116,7 @@ pub fn print_choice<const CAP: usize>(
 }
 
 // Whether a line names the input's fields.
+#[tactic(auto, using(crate::proofs::Same::pointwise_same), unfolding(crate::specs::Answer::input_names))]
 fn is_names(line: &[u8]) -> bool
     ensures { result ≡ same line.now input_names }
 {

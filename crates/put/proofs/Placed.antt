@@ -1,12 +1,11 @@
--- Text put at a place: its length, what stands before its end and behind it, one text after another, one store, a copy and a move. Assumes nothing.
+-- Text put at a place: its length, one text after another, a copy and a move. Assumes nothing.
 use mathlib.Core.Path.{◌≡◌, refl, sym, ap, ◌∙◌, subst}
-use mathlib.Core.List.{List, [], ◌∷◌, ◌++◌, append_assoc}
-use Prim.Native.Nat.{ℕ, ◌+◌, ◌-◌, ◌≤◌, ◌<◌}
+use mathlib.Core.List.{List, [], ◌++◌, append_assoc}
+use Prim.Native.Nat.{ℕ, ◌+◌, ◌-◌, ◌≤◌}
 use native.Mathlib.Nat.{add-zero, add_assoc}
-use native.Mathlib.Numerals.{add-one}
 use native.Mathlib.Omega.{arith}
-use lib.ListN.{length, take, drop, set, length-append, length-drop, take-append-drop}
-use lib.Seq.{length-take-le, take_at, drop_at, drop-append-add, drop-drop, set_split}
+use lib.ListN.{length, take, drop, length-append, length-drop, take-append-drop}
+use lib.Seq.{length-take-le, take_at, drop-append-add, drop-drop}
 use borrow.Rule.Slice.PartMut.{put_mid}
 use Rattle.std.specs.List.{copy_within}
 use Rattle.std.proofs.lemmas.Slice.{put_mid-paste}
@@ -29,22 +28,6 @@ placed_nothing xs at = ap (λ (k : ℕ). take at xs ++ drop k xs) (add-zero at) 
 pub placed_front : (xs text : List ℕ) (n : ℕ) → length text ≡ n → take n (placed xs 0 text) ≡ text
 unfolding placed
 placed_front xs text n e = take_at text (drop (0 + length text) xs) n e
-
--- up to the text's end, and behind it
-placed_head_length : (xs : List ℕ) (at : ℕ) (text : List ℕ) → at ≤ length xs → length (take at xs ++ text) ≡ at + length text
-placed_head_length xs at text h = length-append (take at xs) text ∙ ap (λ (k : ℕ). k + length text) (length-take-le at xs h)
-
-pub placed_head : (xs : List ℕ) (at : ℕ) (text : List ℕ) → at ≤ length xs → take (at + length text) (placed xs at text) ≡ take at xs ++ text
-unfolding placed
-placed_head xs at text h =
-    ap (take (at + length text)) (sym (append_assoc (take at xs) text (drop (at + length text) xs)))
-    ∙ take_at (take at xs ++ text) (drop (at + length text) xs) (at + length text) (placed_head_length xs at text h)
-
-pub placed_rest : (xs : List ℕ) (at : ℕ) (text : List ℕ) → at ≤ length xs → drop (at + length text) (placed xs at text) ≡ drop (at + length text) xs
-unfolding placed
-placed_rest xs at text h =
-    ap (drop (at + length text)) (sym (append_assoc (take at xs) text (drop (at + length text) xs)))
-    ∙ drop_at (take at xs ++ text) (drop (at + length text) xs) (at + length text) (placed_head_length xs at text h)
 
 -- m elements past a first part, which has n
 drop_past : (p q : List ℕ) (n m : ℕ) → length p ≡ n → drop (n + m) (p ++ q) ≡ drop m q
@@ -69,16 +52,6 @@ placed_twice xs at text more h =
 pub placed_after : (xs : List ℕ) (at : ℕ) (text ys : List ℕ) (i : ℕ) (more zs : List ℕ) → at + length text + length more ≤ length xs
     → i ≡ at + length text → ys ≡ placed xs at text → zs ≡ placed ys i more → zs ≡ placed xs at (text ++ more)
 placed_after xs at text ys i more zs h e p q = q ∙ (λ j. placed (p j) (e j) more) ∙ placed_twice xs at text more h
-
-pub set_placed : (xs : List ℕ) (at b : ℕ) → at < length xs → set xs at b ≡ placed xs at (b ∷ [])
-unfolding placed
-set_placed xs at b h = set_split xs at b h ∙ ap (λ (k : ℕ). take at xs ++ b ∷ drop k xs) (sym (add-one at))
-
--- a byte stored right after a text
-pub set_after : (xs : List ℕ) (at : ℕ) (text : List ℕ) (i b : ℕ) → i ≡ at + length text → i < length xs → set (placed xs at text) i b ≡ placed xs at (text ++ (b ∷ []))
-set_after xs at text i b e h =
-    let long = placed_length xs at text (omega arith) in
-    placed_after xs at text _ i (b ∷ []) _ (omega arith) e refl (set_placed (placed xs at text) i b (omega arith))
 
 -- a text copied to its place
 pub copied : (xs : List ℕ) (at k : ℕ) (text ys : List ℕ) → ys ≡ text → k ≡ length text → put_mid at k xs ys ≡ placed xs at text

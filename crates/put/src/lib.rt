@@ -26,6 +26,7 @@ pub fn decimal<const CAP: usize>(n: u64, out: &mut ArrayVec<u8, CAP>)
 }
 
 // A number of a choice; most have one digit.
+#[tactic(auto, using(crate::proofs::Digits::decimal_one, crate::proofs::Digits::decimal_small))]
 pub fn small<const CAP: usize>(n: u8, out: &mut ArrayVec<u8, CAP>)
     requires { array_vec_len out.old + 3 ≤ CAP }
     ensures text { out.new.items ≡ out.old.items ++ decimal n }

@@ -22,6 +22,7 @@ pub struct PartLine {
 }
 
 // The part line from `at` on: no line is longer than 81 bytes. A refusal is the end, at its line.
+#[tactic(auto, using(crate::proofs::Ends::part_refused, crate::proofs::Ends::part_left))]
 fn part_line<const CAP: usize>(
     input: &[u8],
     at: usize,
@@ -64,6 +65,7 @@ pub fn answer_block<const CAP: usize>(
 }
 
 // The input's end, in line `number`, of which `part` has come. A refusal is told by its line.
+#[tactic(auto, using(crate::proofs::Ends::ends_whole, crate::proofs::Ends::ends_refused, crate::proofs::Ends::refused_some, crate::proofs::Joins::blocks_join))]
 pub fn finish<const CAP: usize>(
     part: &[u8],
     number: u64,
