@@ -15,7 +15,7 @@ ghost use Rattle.choice.specs.Unmatched.{NoneOrAll};
 use cube::{Cube, Refusal};
 use tilings::Counted;
 
-// A case and one of its configurations; `Nothing` is case 0.
+// A case and one of its configurations; `Nothing` is case 0. The numbers are document 01's own, which tables are read by.
 #[derive(Clone, Copy)]
 enum Family {
     Nothing,

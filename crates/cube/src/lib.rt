@@ -68,7 +68,8 @@ pub fn take_apart(n: i8) -> Result<u8, u8>
     }
 }
 
-// The corner at place `k` of a table that is written as one number, a hex digit for each place.
+// The corner at place `k` of a table that is written as one number, a hex digit for each place; corner 0 past place 15,
+// since an `Option` would leave callers a case that cannot be.
 pub fn corner_in(column: u64, k: u32) -> Corner
     ensures { result.0 ≡ digit_of column k }
 {
@@ -86,7 +87,7 @@ pub fn values(q: Cube) -> [f32; 8]
     [q.c0, q.c1, q.c2, q.c3, q.c4, q.c5, q.c6, q.c7]
 }
 
-// The value at a corner, and a NaN past corner 7.
+// The value at a corner, and a NaN past corner 7: an `Option` would leave callers a case that cannot be.
 pub fn value_at(values: &[f32; 8], k: Corner) -> f32
     ensures { result ≡ value_at values.now k.0 }
 {

@@ -20,7 +20,8 @@ use family_13::case_13;
 use tilings::*;
 use two_faces::{case_10, case_12};
 
-// The first tiling of a case, its only one where the case asks nothing.
+// The first tiling of a case, its only one where the case asks nothing; 0 for a case that is none, which no caller has,
+// so an `Option` would be taken apart at once.
 #[tactic(auto, using(crate::proofs::Families::no_first), unfolding(tilings::specs::Tilings::first_tiling, tilings::specs::Tilings::tilings_of))]
 fn first_tiling(case: u8) -> u8
     ensures { result ≡ first_tiling case }
@@ -64,7 +65,7 @@ pub fn choose_plain(q: Cube, case: u8, c: u8) -> Counted
     plain(first_tiling(case), c, 0)
 }
 
-// The choice for a configuration of a case.
+// The choice for a configuration of a case. A match on the case, which is input: no step of a run to hand on as a closure.
 #[tactic(auto, using(crate::proofs::Families::not_asking), unfolding(tilings::specs::Tilings::configurations, crate::specs::Plans::plans, crate::specs::Plans::plan_of))]
 pub fn choose(q: Cube, case: u8, c: u8) -> Counted
     requires { c < get_or configurations case 0 }

@@ -31,7 +31,7 @@ fn number(digits: &[u8]) -> Option<u32>
     Some(n)
 }
 
-// The value of the two digits from `at` on.
+// The value of the two digits from `at` on: a line and a place, as callers have them.
 pub fn pair(line: &[u8], at: usize) -> Option<u8>
     requires { at + 2 ≤ length line.now }
     ensures { MatchOption result (pair_of line.now at ≡ 256) (λ n. pair_of line.now at ≡ n) }

@@ -38,7 +38,7 @@ fn put_rows(cubes: Cubes, n: usize, answers: &mut [u8])
 }
 
 // A choice for each cube, a row of answer bytes each: code, row, column, centre + 2 × unsettled, unmatched, readings. Two
-// passes: no byte is written before every cube is known not to be refused.
+// passes: no byte is written before every cube is known not to be refused. Three slices, as C lends them.
 #[tactic(auto, using(crate::proofs::Controls::tries_hold, rows::proofs::Rows::old_rows, rows::proofs::Rows::bare_rows))]
 pub fn choose_list(corners: &[f32], numbers: &[i8], answers: &mut [u8]) -> Result<(), ListRefused>
     ensures outcome { outcome_result result ≡ result_of corners.now numbers.now (length answers.old) }

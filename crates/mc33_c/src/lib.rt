@@ -123,7 +123,8 @@ fn answered(code: u8, row: u8, column: u8, centre: bool, notes: Notes) -> Mc33Ch
     }
 }
 
-// A choice as numbers.
+// A choice as numbers. No `From`, which has no place for the `requires`; and a match of its own, as the row (`rows`) and the
+// line (`answer`) have theirs: one packs two numbers into a byte, one prints.
 #[tactic(auto, unfolding(crate::specs::Answers::reached_numbers))]
 fn reached_numbers(r: Counted) -> Mc33Choice
     requires { r.notes.readings ≤ 255 }

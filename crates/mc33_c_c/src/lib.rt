@@ -1,5 +1,6 @@
 // The exports of `mc33_c`, by the names of include/mc33.h: each calls the function of its name there, and promises
-// the same.
+// the same. Both crates stand, since one is a library or a static library, and a program of the gate calls these from
+// Rattle.
 #![tactic(auto)]
 
 ghost use Rattle.std.specs.Prelude.{◌≡◌, length};

@@ -59,7 +59,8 @@ fn joins(k: Cube, n: Face, l: Cube, p: Face) -> bool
 }
 
 // Whether two cubes that meet at a face, with the same alternating values in range, answer alike: they do
-// exactly when the two face numbers have the same sign. `None`: the faces do not meet so.
+// exactly when the two face numbers have the same sign. `None`: the faces do not meet so. Four arguments, since a cube with a
+// face would be a pair made for this call alone.
 #[tactic(auto, using(crate::proofs::Agreement::faces_agree, crate::proofs::Meetings::by_comparison), unfolding(crate::specs::Meeting::compared_of))]
 pub fn compare_faces(k: Cube, n: Face, l: Cube, p: Face) -> Result<Option<bool>, Refusal>
     ensures result { said result ≡ compared_of k n.0 l p.0 }

@@ -8,7 +8,7 @@ ghost use Rattle.notes.specs.Notes.{no_notes, tests_of, look_of, added, total};
 // Unsettled: the edge readings that are crossed with product zero or blank (document 02, Change 2). Unmatched: the
 // diagonal picks without a match (Change 4). Readings: the face tests, edge readings and case-13 tests (Change 7), in
 // sixteen bits: with eight a choice and its counts were eight bytes, of which the compiler makes one word that each way
-// packs and unpacks.
+// packs and unpacks. They have no ceiling in the type: `tests` takes any number.
 #[derive(Clone, Copy)]
 pub struct Notes {
     pub unsettled: u8,
@@ -16,6 +16,7 @@ pub struct Notes {
     pub readings: u16,
 }
 
+// Written out, since a derived `Default` promises each field by itself and not `no_notes`.
 pub fn none() -> Notes
     ensures { result ≡ no_notes }
 {

@@ -91,7 +91,7 @@ pub fn root_bits(bits: u32) -> u32
     positive(bits / 0x80_0000, bits % 0x80_0000)
 }
 
-// The root of x.
+// The root of x. A NaN is made by arithmetic, as `float_of` makes it: `f32::NAN` may have another pattern.
 pub fn root(x: f32) -> f32
     ensures value { result ≡ root_of x }
     ensures nearest { NearestRoot x result }

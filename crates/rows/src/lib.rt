@@ -88,7 +88,7 @@ fn filled(code: u8, row: u8, column: u8, rest: u8, notes: Notes) -> Row
     }
 }
 
-// The row of a choice.
+// The row of a choice. A match of its own, as C's record (`mc33_c`) and the line (`answer`) have theirs.
 pub fn row_of(r: Counted) -> Row
     requires { (r.notes.unsettled ≤ 3) × (r.notes.readings ≤ 7) }
     ensures { bytes_in result ≡ bytes_of (reached r) }

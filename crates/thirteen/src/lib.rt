@@ -14,7 +14,7 @@ fn is_within(x: f32) -> bool
     (0.0 < x) & (x < 1.0)
 }
 
-// Whether x and y at t lie strictly within 0 and 1.
+// Whether x and y at t lie strictly within 0 and 1. The four places by name, as the definition has them.
 fn both_within(m: Moves, t: f32) -> bool
     ensures { result ≡ both_within m t }
 {
