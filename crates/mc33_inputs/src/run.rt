@@ -23,7 +23,7 @@ pub(crate) fn agrees(
 {
     let mut part = PartLine { left: 0, number: 1 };
     let mut rest = output;
-    // Blocks of two sizes, behind a part line: no iterator of std cuts so.
+    // A block goes back behind what the last one left, so `chunks` would not give it.
     let mut at = 0;
     let mut size = first;
     while at < input.len() {

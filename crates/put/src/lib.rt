@@ -13,6 +13,7 @@ pub fn bytes<const CAP: usize>(text: &[u8], out: &mut ArrayVec<u8, CAP>)
     requires { array_vec_len out.old + length text.now ≤ CAP }
     ensures { out.new.items ≡ out.old.items ++ text.now }
 {
+    // There is room, so all of it is appended.
     let _ = out.try_extend_from_slice(text);
 }
 

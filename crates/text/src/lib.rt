@@ -54,7 +54,7 @@ pub fn answer_block<const CAP: usize>(
         (λ line. line ≤ number + length input.now) }
     ensures composes { Composes number input.now }
 {
-    // Both are in the answer, and `find` takes the place: slices of what is left would be no plainer.
+    // Both are in the answer. `split` would look at each byte in turn, and says neither where the rest begins nor its number.
     let mut at = 0;
     let mut n = number;
     while let Some(end) = scan::find(input, at, input.len(), b'\n') {
