@@ -21,7 +21,8 @@ use cube::Refusal;
 use std::ops::ControlFlow;
 use tilings::{Choice, Counted};
 
-// A number, and a byte after it.
+// A number, and a byte after it. Each function asks for its room: what is left of it changes with every byte, so no type holds
+// it; and the line's number is an argument of its own, as in the definitions.
 fn put_field<const CAP: usize>(n: u8, after: u8, out: &mut ArrayVec<u8, CAP>)
     requires { array_vec_len out.old + 4 ≤ CAP }
     ensures text { out.new.items ≡ out.old.items ++ (decimal n ++ (after ∷ [])) }
@@ -43,6 +44,7 @@ fn put_fields<const CAP: usize>(numbers: &[u8], last: u8, out: &mut ArrayVec<u8,
     put_field(last, b'\n', out);
 }
 
+// A match of its own, as the row (`rows`) and C's record (`mc33_c`) have theirs, so that the edits of each stand in its crate.
 // The numbers of a tiling; empty is zeros, and no tiling is 255 with the configuration and the sub-configuration.
 #[tactic(auto, using(crate::proofs::Replies::empty_line, crate::proofs::Replies::untiled_line, crate::proofs::Replies::tiled_line))]
 fn numbers_of(choice: Choice) -> (u8, u8, u8, u8)

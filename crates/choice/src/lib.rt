@@ -15,7 +15,8 @@ ghost use Rattle.choice.specs.Unmatched.{NoneOrAll};
 use cube::{Cube, Refusal};
 use tilings::Counted;
 
-// A case and one of its configurations; `Nothing` is case 0. The numbers are document 01's own, which tables are read by.
+// A case and one of its configurations; `Nothing` is case 0, a family too, so this is no `Option`. The numbers are document
+// 01's own, which tables are read by.
 #[derive(Clone, Copy)]
 enum Family {
     Nothing,
@@ -68,7 +69,7 @@ fn family_of(case: i8, configuration: i8) -> Result<Family, Refusal>
 }
 
 // The choice: refusal 1, 2 or 3 in this order, or what document 01 chooses. Document 02's figures, how many readings a case
-// makes, are part of `ranges`.
+// makes, are part of `ranges`. Three arguments, as document 01 and C have them.
 #[tactic(auto, using(crate::proofs::Starred::starred, crate::proofs::Inner::inner_numbers, crate::proofs::Unmatched::none_or_all_lem))]
 pub fn handle_cube(case: i8, configuration: i8, q: Cube) -> Result<Counted, Refusal>
     ensures choice { said result ≡ answer_of case configuration q }

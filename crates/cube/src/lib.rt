@@ -24,7 +24,7 @@ pub struct Cube {
     pub c7: f32,
 }
 
-// A signed face number: -6..-1 and 1..6 are faces.
+// A signed face number: -6..-1 and 1..6 are faces. In document 01's form, as the next two: any number may be given and refused.
 #[derive(Clone, Copy)]
 pub struct Face(pub i8);
 
@@ -56,8 +56,8 @@ pub fn number(why: Refusal) -> u8
     why as u8
 }
 
-// A signed number taken apart: `Ok(k)` is k, and `Err(k)` is -1 - k, as the library's `binary_search`
-// answers `Err` with a place beside what was asked for.
+// A signed number taken apart: `Ok(k)` is k, and `Err(k)` is -1 - k, as the library's `binary_search` answers `Err` with a
+// place. `u8::try_from` would give no k below 0, and this test would stand beside it.
 pub fn take_apart(n: i8) -> Result<u8, u8>
     ensures { split_value result ≡ n }
 {
@@ -68,8 +68,8 @@ pub fn take_apart(n: i8) -> Result<u8, u8>
     }
 }
 
-// The corner at place `k` of a table that is written as one number, a hex digit for each place; corner 0 past place 15,
-// since an `Option` would leave callers a case that cannot be.
+// The corner at place `k` of a table that is written as one number, a hex digit for each place; corner 0 past place 15.
+// Total as its definition is, so this is no `Option`; the same of the next.
 pub fn corner_in(column: u64, k: u32) -> Corner
     ensures { result.0 ≡ digit_of column k }
 {
@@ -87,7 +87,7 @@ pub fn values(q: Cube) -> [f32; 8]
     [q.c0, q.c1, q.c2, q.c3, q.c4, q.c5, q.c6, q.c7]
 }
 
-// The value at a corner, and a NaN past corner 7: an `Option` would leave callers a case that cannot be.
+// The value at a corner, and a NaN past corner 7: total as its definition is, so this is no `Option`.
 pub fn value_at(values: &[f32; 8], k: Corner) -> f32
     ensures { result ≡ value_at values.now k.0 }
 {

@@ -16,7 +16,7 @@ ghost use Rattle.edge.specs.Moves.{moves_of, product_of, read_of};
 use cube::{Cube, EdgeNo, Refusal};
 
 // What is read at an edge: `Rising` where a > 0, `Beyond` with t where t < 0 or t > 1, `Crossed` with t and the
-// product, or `Blank` where t or the product is NaN.
+// product, or `Blank` where t or the product is NaN. Document 01's form.
 #[derive(Clone, Copy)]
 pub enum Reading {
     Rising,
@@ -130,7 +130,7 @@ pub fn place_at(u: f32, g: f32, t: f32) -> f32
     u + g * t
 }
 
-// product = w1×w3 - w2×w4, at t
+// product = w1×w3 - w2×w4, at t; the four places by name, as the definition has them
 fn product_at(m: Moves, t: f32) -> f32
     ensures { result ≡ product_of m t }
 {

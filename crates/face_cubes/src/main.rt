@@ -57,7 +57,7 @@ fn tests(rt: &impl Print) -> io::Result<()> {
         (below([1.0, -1.0, 1.0, -1.0]), -6),
         (low([1.0, -1.0, 1.0, -1.0]), 0),
         (low([1.0, -1.0, 1.0, -1.0]), -7),
-        (low([1.0, 1.0 / 0.0, 1.0, -1.0]), 6),
+        (low([1.0, f32::INFINITY, 1.0, -1.0]), 6),
     ] {
         println!(rt; "{}", Said(face::test_face(q, Face(n)).map(Some)))?;
     }

@@ -46,7 +46,8 @@ fn first_tiling(case: u8) -> u8
 }
 
 // A bit for each case that asks something. Tried as `matches!` and as a list with `contains`: the compiler joins either
-// with the match in `choose`, and a case that asks nothing took 45 or 42 instructions for 26, and a mispredicted jump.
+// with the match in `choose`, and a case that asks nothing took 45 or 42 instructions for 26, and a mispredicted jump. Its own
+// line, as `tilings::has_centre` has one.
 const ASKING: u32 = 0x34d8;
 
 #[tactic(auto, using(crate::proofs::Bits::below_16, crate::proofs::Bits::from_16))]

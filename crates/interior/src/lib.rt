@@ -20,7 +20,7 @@ use edge::{Moves, Reading};
 pub use faces::AmbiguousFace;
 use notes::Notes;
 
-// The signed number s of an interior test.
+// The signed number s of an interior test, which document 01's TEST tables give.
 #[derive(Clone, Copy)]
 pub struct Side(pub i8);
 

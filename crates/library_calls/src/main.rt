@@ -21,7 +21,7 @@ use cube::Cube;
 use std::alloc::{AllocError, Global};
 use std::io;
 
-// The cubes held: eight corner values and two numbers each.
+// The cubes held: eight corner values and two numbers each, in two vectors as `mc33_list` takes two slices.
 #[derive(Drop)]
 struct Held {
     corners: Vec<f32>,

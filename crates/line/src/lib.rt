@@ -43,7 +43,7 @@ fn whole(text: &[u8]) -> Option<u32>
     }
 }
 
-// -n, where that is in -128..-1.
+// -n, where that is in -128..-1. `i8::try_from` would let -0 through, and the match would stand beside it.
 fn below(n: u32) -> Option<i8>
     ensures { result ≡ cond (leb 1 n && leb n 128) (Some (negsuc (n - 1))) None }
 {

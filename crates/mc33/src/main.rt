@@ -43,7 +43,7 @@ enum Failure {
 }
 
 impl Failure {
-    // The line that says so.
+    // The line that says so, in bytes and not by `Display`: `waiting` writes bytes, and says how many were taken.
     fn line(self) -> &'static [u8] {
         match self {
             Failure::Read => b"mc33: read failed\n",
@@ -116,7 +116,8 @@ impl<C: Clock, R: Read, W: Write, E: Write> Streams<C, R, W, E> {
         )
     }
 
-    // Answers the n bytes that there are: what is kept is what their block leaves.
+    // Answers the n bytes that there are: what is kept is what their block leaves. The two rooms are no fields, since what is in
+    // them is lent to `write_text` beside self.
     fn answer(
         &mut self,
         number: u64,

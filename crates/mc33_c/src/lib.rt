@@ -38,7 +38,7 @@ pub struct Mc33Choice {
     pub readings: u8,
 }
 
-// `answer` is 1 for true.
+// `answer` is 1 for true, and `refusal` 0 where there is one: numbers of the C interface.
 #[repr(C)]
 #[derive(Clone, Copy)]
 pub struct Mc33Face {
@@ -57,8 +57,8 @@ pub struct Mc33Edge {
     pub product: f32,
 }
 
-// A list's outcome: `refusal` is 0 where the list is done; `place` is that of the refused cube, counted
-// from 0.
+// A list's outcome, in numbers of the C interface: `refusal` is 0 where the list is done; `place` is that of the refused
+// cube, counted from 0.
 #[repr(C)]
 #[derive(Clone, Copy)]
 pub struct Mc33Outcome {

@@ -15,7 +15,8 @@ use run::{INPUT, OUT};
 use std::alloc::{AllocError, Global};
 use std::io;
 
-// What a line came to: nothing, or a test, in so many runs. A line of another form differs in none.
+// What a line came to: nothing, or a test, in so many runs. A line of another form differs in none, so no flag beside a
+// number would do.
 #[derive(Clone, Copy)]
 enum Tried {
     Nothing,

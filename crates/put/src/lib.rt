@@ -40,7 +40,7 @@ pub fn small<const CAP: usize>(n: u8, out: &mut ArrayVec<u8, CAP>)
     decimal(n as u64, out);
 }
 
-// Moves the bytes from `from` up to `to` to the front, and answers how many they are.
+// Moves the bytes from `from` up to `to`, a range as `copy_within` takes it, to the front, and answers how many they are.
 #[tactic(auto, using(crate::proofs::Placed::moved))]
 pub fn to_front(buf: &mut [u8], from: usize, to: usize) -> usize
     requires { (from ≤ to) × (to ≤ length buf.old) }

@@ -47,7 +47,8 @@ fn rounded(n: u64, k: u32) -> u32
     k * 0x80_0000 + (q as u32)
 }
 
-// The same for a smaller n, which is first brought up to 2^46 by fours.
+// The same for a smaller n, which is first brought up to 2^46 by fours; how many are wanted is not known before, so this is no
+// `for`.
 fn scaled(n: u64, k: u32) -> u32
     requires { (0 < n) × ((n < 2 ^ 48) × ((k < 192) × (2 ^ 48 ≤ n * 4 ^ k))) }
     ensures { result ≡ to_bits binary32 (root_units (n * 4 ^ k)) }

@@ -17,14 +17,15 @@ use tilings::{Choice, Counted};
 // The answer bytes of a cube.
 pub const WIDTH: usize = 6;
 
-// Why a list is refused, and the place of its cube.
+// Why a list is refused, and the place of its cube; place 0 where it is none's fault, as C's record has it.
 #[derive(Clone, Copy)]
 pub struct ListRefused {
     pub why: Refusal,
     pub place: usize,
 }
 
-// The cubes of a list: eight corner values a cube, and two numbers, its case and its configuration.
+// The cubes of a list: eight corner values a cube, and two numbers, its case and its configuration, in two slices as C lends
+// them. That cube i is there is asked by each method: a fact in the type, on both lengths, would ask more of callers.
 #[derive(Clone, Copy)]
 pub struct Cubes<'a> {
     pub corners: &'a [f32],

@@ -4,7 +4,7 @@
 ghost use Rattle.std.specs.Prelude.{◌≡◌, ◌+◌, ◌-◌, ◌<◌, ◌≤◌, length, MatchOption, IfSome};
 ghost use Rattle.scan.specs.Bytes.{index_of, slice};
 
-// The first place from `from` on and below `to` that holds `b`.
+// The first place from `from` on and below `to` that holds `b`: places of the whole run, as callers count them.
 pub fn find(bytes: &[u8], from: usize, to: usize, b: u8) -> Option<usize>
     requires { (from ≤ to) × (to ≤ length bytes.now) }
     ensures place { MatchOption result

@@ -21,7 +21,7 @@ pub struct PartLine {
     pub number: u64,
 }
 
-// The part line from `at` on: no line is longer than 81 bytes. A refusal is the end, at its line.
+// The part line from `at` on, which is in the answer: no line is longer than 81 bytes. A refusal is the end, at its line.
 #[tactic(auto, using(crate::proofs::Ends::part_refused, crate::proofs::Ends::part_left))]
 fn part_line<const CAP: usize>(
     input: &[u8],

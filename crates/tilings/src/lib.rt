@@ -19,7 +19,8 @@ use interior::{AmbiguousFace, Side, Sight};
 use notes::Notes;
 
 // `Untiled` has the configuration and the sub-configuration; `Tiled` the code, row and column, and whether the
-// tiling is drawn with the centre.
+// tiling is drawn with the centre. Numbers of the variant and no struct: of four bytes in one the compiler made a word and took
+// it apart again, and lists of cases that ask nothing took 1.17 times the time.
 #[derive(Clone, Copy)]
 pub enum Choice {
     Empty,
@@ -113,7 +114,8 @@ pub const TILING_13_5_2: u8 = 37;
 pub const TILING_14: u8 = 38;
 
 // A bit for each code whose tiling is drawn with the centre. Of a `matches!` over the codes the compiler made branches,
-// of which a choice of case 13 mispredicted 0.3 more and one of case 12 0.2 more.
+// of which a choice of case 13 mispredicted 0.3 more and one of case 12 0.2 more. `families::asks` is the like for cases: one
+// function over a set would be this line, with the same two lemmas left to each.
 const CENTRES: u64 = 0xe18602000;
 
 #[tactic(auto, using(crate::proofs::Bits::below_64, crate::proofs::Bits::from_64))]
