@@ -2,8 +2,7 @@
 use mathlib.Core.Path.{◌≡◌, sym, subst}
 use mathlib.Core.List.{List, [], ◌∷◌, ◌++◌}
 use mathlib.Core.Logic.{inl, inr}
-use Prim.Native.Nat.{ℕ, ◌+◌, ◌-◌, ◌≤◌}
-use native.Mathlib.Nat.{sub-zero}
+use Prim.Native.Nat.{ℕ, ◌+◌, ◌≤◌}
 use native.Mathlib.Omega.{arith}
 use lib.ListN.{length, take, drop, length-drop}
 use lib.Seq.{length-take-le, take-add, take_at}
@@ -11,16 +10,12 @@ use Rattle.std.specs.Prelude.{Result, Ok, Err}
 use Rattle.std.specs.declared.io.Error.{Error}
 use Rattle.text.specs.Block.{block_of}
 use Rattle.mc33.specs.declared.part.Part.{Part}
-use Rattle.mc33.specs.Kept.{State, Kept, Counted, Ended, Came, Told, Turned}
+use Rattle.mc33.specs.Kept.{State, Kept, Counted, Came, Told, Turned}
 
 some_bytes : (number : ℕ) (part came : List ℕ) (r : State) (buf out : List ℕ) → 1 ≤ length came → Counted number r (Kept r buf out (block_of number (part ++ came)))
     → Came came number part r buf out
 some_bytes number part [] r buf out h x = absurd (omega arith)
 some_bytes number part (b ∷ bs) r buf out h x = x
-
--- the part line was lent as the bytes from 0 on
-pub none_came : (s : Part) (r : State) (xs buf out : List ℕ) → Ended s.number (take (s.have - 0) xs) r out → Told (Ok 0) s xs r buf out
-none_came s r xs buf out h = subst (λ (n : ℕ). Ended s.number (take n xs) r out) (sub-zero s.have) h
 
 pub some_came : (got : Result ℕ Error) (s : Part) (r : State) (xs buf out : List ℕ) (n : ℕ) → got ≡ Ok n → 1 ≤ n → s.have + n ≤ length xs
     → Counted s.number r (Kept r buf out (block_of s.number (take (s.have + n) xs))) → Told got s xs r buf out

@@ -5,7 +5,7 @@ use Prim.Native.Nat.{ℕ, ◌-◌, ◌≤◌}
 use native.Mathlib.Omega.{arith}
 use lib.ListN.{length, take, drop, length-drop}
 use lib.Seq.{length-take-le}
-use Rattle.std.specs.Prelude.{Some, None, Ok}
+use Rattle.std.specs.Prelude.{Some, Ok}
 use Rattle.std.specs.declared.ops.ControlFlow.{ControlFlow}
 use Rattle.std.specs.declared.ops.ControlFlow.TheVariants.{Continue, Break}
 use Rattle.put.specs.Placed.{placed}
@@ -15,9 +15,8 @@ use Rattle.text.specs.declared.PartLine.{PartLine}
 use Rattle.text.specs.Block.{Block, behind, block_of}
 use Rattle.text.specs.Left.{block_by}
 use Rattle.text.proofs.Joins.{left_short}
-use Rattle.mc33.specs.declared.Piece.{Piece}
 use Rattle.mc33.specs.declared.part.Part.{Part}
-use Rattle.mc33.specs.Kept.{RefusedAt, Kept}
+use Rattle.mc33.specs.Kept.{Kept}
 
 written_by : (out input : List ℕ) (done : ControlFlow ℕ PartLine) → (block_by out input done).written ≡ out
 written_by out input (Continue part) = refl
@@ -31,16 +30,6 @@ module _ (xs out before : List ℕ) (first n : ℕ) (done : ControlFlow ℕ Part
 
   pub text : out ≡ (block_of first (take n xs)).written
   text = sym (written_by out (take n xs) done) ∙ ap (λ (x : Block). x.written) whole
-
-  module _ (line : ℕ) (d : done ≡ Break line) where
-    ended : block_by out (take n xs) (Break line) ≡ block_of first (take n xs)
-    ended = subst (λ (c : ControlFlow ℕ PartLine). block_by out (take n xs) c ≡ block_of first (take n xs)) d whole
-
-    pub refused : RefusedAt (Piece.Block first) (take n xs) line
-    refused = (sym (ap (λ (x : Block). x.over) ended), ap (λ (x : Block). x.number) ended)
-
-    pub kept_none : (ys : List ℕ) → Kept (Ok None) ys out (block_of first (take n xs))
-    kept_none ys = record { text = text; left = sym (ap (λ (x : Block). x.over) ended) }
 
   module _ (part : PartLine) (d : done ≡ Continue part) (h : part.left ≤ length (take n xs)) (l : n ≤ length xs) where
     left : block_by out (take n xs) (Continue part) ≡ block_of first (take n xs)
