@@ -2,13 +2,11 @@
 use mathlib.Core.Path.{◌≡◌, sym, ap, ◌∙◌, subst}
 use mathlib.Core.Logic.{◌⊎◌, inl, inr}
 use Prim.Native.Nat.{ℕ, zero, suc, ◌+◌, ◌-◌, ◌/◌, ◌^◌, ◌≤◌, ◌<◌}
-use native.Mathlib.Nat.{lt_of_le_of_lt, lt_irrefl, two-pow-succ}
+use native.Mathlib.Nat.{lt_irrefl, two-pow-succ}
 use native.Mathlib.Numerals.{sub-one}
 use native.Mathlib.Omega.{arith}
-use lib.Dec.{lit<}
 use Rattle.root.specs.Root.{square, whole_root}
 use Rattle.root.specs.Search.{DigitsLeft}
-use Rattle.root.proofs.Squares.{square_le}
 use Rattle.root.proofs.WholeRoot.{root_is}
 
 -- how many are left may be written in another way
@@ -26,10 +24,6 @@ halved zero unit e z = absurd (lt_irrefl 0 z)
 halved (suc b) unit e z =
     let f : unit ≡ 2 ^ b + 2 ^ b = e ∙ two-pow-succ b in
     (subst (λ (k : ℕ). unit / 2 ≡ 2 ^ k) (sym (sub-one (suc b))) (omega arith), omega arith)
-
--- a number up to the search's end, 2 ^ 24, has a square far below 2 ^ 64
-pub tried_square : (next : ℕ) → next ≤ 2 ^ 24 → square next < 2 ^ 64
-tried_square next l = lt_of_le_of_lt (square_le l) (lit< tt)
 
 module _ (n root bits unit : ℕ) (h : DigitsLeft n root bits unit) where
   -- the next digit is 1, or it is 0

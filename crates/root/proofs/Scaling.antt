@@ -1,7 +1,7 @@
 -- One number n * 4 ^ k, or one power of two, written in two ways. Assumes nothing.
 use mathlib.Core.Path.{◌≡◌, sym, ap, ◌∙◌}
 use Prim.Native.Nat.{ℕ, zero, suc, ◌+◌, ◌-◌, ◌*◌, ◌^◌, ◌≤◌, ◌<◌}
-use native.Mathlib.Nat.{le_trans, le_of_eq, one-mul, mul_assoc, mul_comm, mul-le-mul_right, pow-succ', lt_irrefl}
+use native.Mathlib.Nat.{mul_assoc, mul_comm, pow-succ', lt_irrefl}
 use native.Mathlib.Numerals.{sub-one}
 use native.Mathlib.Omega.{arith}
 use lib.Pow.{pow-add}
@@ -16,10 +16,6 @@ fours n (suc j) h = ap (λ (z : ℕ). n * 4 * 4 ^ z) (sub-one (suc j)) ∙ mul_a
 pub four_left : (n k : ℕ) → n < 2 ^ 46 → 2 ^ 48 ≤ n * 4 ^ k → 0 < k
 four_left n zero h l = omega arith
 four_left n (suc j) h l = omega arith
-
--- a large power is enough for any number
-pub enough_left : (n p : ℕ) → 0 < n → 2 ^ 48 ≤ p → 2 ^ 48 ≤ n * p
-enough_left n p h l = le_trans l (le_trans (le_of_eq (sym (one-mul p))) (mul-le-mul_right p h))
 
 pub subnormal_scale : (t : ℕ) → t * 2 ^ 0 * 2 ^ 149 ≡ 2 * t * 4 ^ 74
 subnormal_scale t =

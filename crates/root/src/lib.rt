@@ -16,7 +16,8 @@ ghost use Rattle.root.specs.Search.{DigitsLeft};
 use binary32::float_of;
 
 // The whole root of n, digit by digit: `root` has the leading digits, and `bits` are left to find,
-// of which the first weighs half of `unit`.
+// of which the first weighs half of `unit`. By `<` and not by `<=`, which takes a step more on some
+// machines (`docs/PERFORMANCE.md`).
 fn isqrt(n: u64, root: u64, bits: u32, unit: u64) -> u64
     requires { DigitsLeft n root bits unit }
     ensures { result ≡ whole_root n }
@@ -26,9 +27,7 @@ fn isqrt(n: u64, root: u64, bits: u32, unit: u64) -> u64
     for _ in 0..bits {
         weight /= 2;
         let next = q + weight;
-        if next * next <= n {
-            q = next;
-        }
+        q = if n < next * next { q } else { next };
     }
     q
 }
@@ -47,8 +46,8 @@ fn rounded(n: u64, k: u32) -> u32
     k * 0x80_0000 + (q as u32)
 }
 
-// The same for a smaller n, which is first brought up to 2^46 by fours; how many are wanted is not known before, so this is no
-// `for`.
+// The same for a smaller n, which is first brought up to 2^46 by fours; how many are wanted is not known before, so
+// this is no `for`.
 fn scaled(n: u64, k: u32) -> u32
     requires { (0 < n) × ((n < 2 ^ 48) × ((k < 192) × (2 ^ 48 ≤ n * 4 ^ k))) }
     ensures { result ≡ to_bits binary32 (root_units (n * 4 ^ k)) }
