@@ -20,6 +20,7 @@ major=$(version MAJOR)
 
 command -v rt > /dev/null || { echo "install.sh: rt, of the Rattle kit, is not at hand" >&2; exit 2; }
 mkdir -p "$built"
+echo "install.sh: proving and building the library, which takes minutes the first time" >&2
 bin/archive.sh > "$built/build.log" 2>&1 || { cat "$built/build.log" >&2; exit 1; }
 gcc -shared -Wl,-soname,"libmc33.so.$major" -Wl,-z,defs -Wl,--whole-archive "$built/libmc33_c.a" -Wl,--no-whole-archive \
     -o "$built/libmc33.so.$major"

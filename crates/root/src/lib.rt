@@ -16,8 +16,8 @@ ghost use Rattle.root.specs.Search.{DigitsLeft};
 use binary32::float_of;
 
 // The whole root of n, digit by digit: `root` has the leading digits, and `bits` are left to find,
-// of which the first weighs half of `unit`. By `<` and not by `<=`, which takes a step more on some
-// machines (`docs/PERFORMANCE.md`).
+// of which the first weighs half of `unit`. A digit is tried by `<`, since `<=` takes some machines
+// longer (`docs/PERFORMANCE.md`, 'The root's comparison').
 fn isqrt(n: u64, root: u64, bits: u32, unit: u64) -> u64
     requires { DigitsLeft n root bits unit }
     ensures { result ≡ whole_root n }
