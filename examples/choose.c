@@ -1,19 +1,35 @@
-/* The proved chooser from C: each routine once, then a list and a refused list. */
+/* The proved chooser from C: each routine once, then lists and refused lists. */
 #include <math.h>
 #include <stdio.h>
 #include <string.h>
 
 #include "mc33.h"
 
+static void print_said(mc33_choice choice)
+{
+    if (choice.refusal)
+        printf("refused %d\n", choice.refusal);
+    else
+        printf("code %d row %d column %d centre %d unsettled %d unmatched %d readings %d\n", choice.code, choice.row,
+               choice.column, choice.centre, choice.unsettled, choice.unmatched, choice.readings);
+}
+
 static void print_choice(int case_number, int configuration, mc33_cube cube)
 {
-    mc33_choice choice = mc33_choose((int8_t)case_number, (int8_t)configuration, cube);
-    if (choice.refusal)
-        printf("case %d/%d: refused %d\n", case_number, configuration, choice.refusal);
-    else
-        printf("case %d/%d: code %d row %d column %d centre %d unsettled %d unmatched %d readings %d\n", case_number,
-               configuration, choice.code, choice.row, choice.column, choice.centre, choice.unsettled,
-               choice.unmatched, choice.readings);
+    printf("case %d/%d: ", case_number, configuration);
+    print_said(mc33_choose((int8_t)case_number, (int8_t)configuration, cube));
+}
+
+static void print_signs(mc33_cube cube)
+{
+    printf("by the signs: ");
+    print_said(mc33_choose_signs(cube));
+}
+
+static void print_family(int set)
+{
+    mc33_family family = mc33_family_of((uint8_t)set);
+    printf("set %d: case %d configuration %d\n", set, family.case_number, family.configuration);
 }
 
 static void print_face(mc33_cube cube, int face)
@@ -46,15 +62,23 @@ static void print_outcome(mc33_outcome outcome)
         printf("done\n");
 }
 
-/* Three cubes; each answer byte is 7 beforehand. */
-static void print_list(const float *corners, const int8_t *numbers)
+static void print_rows(const uint8_t *answers, size_t length)
+{
+    size_t i;
+    for (i = 0; i < length; i++)
+        printf("%d%c", answers[i], (i + 1) % MC33_ROW_BYTES ? ' ' : '\n');
+}
+
+/* Three cubes with their numbers, then by their signs; each answer byte is 7 beforehand. */
+static void print_lists(const float *corners, const int8_t *numbers)
 {
     uint8_t answers[3 * MC33_ROW_BYTES];
-    size_t i;
     memset(answers, 7, sizeof answers);
     print_outcome(mc33_list(corners, 24, numbers, 6, answers, sizeof answers));
-    for (i = 0; i < sizeof answers; i++)
-        printf("%d%c", answers[i], (i + 1) % MC33_ROW_BYTES ? ' ' : '\n');
+    print_rows(answers, sizeof answers);
+    memset(answers, 7, sizeof answers);
+    print_outcome(mc33_list_signs(corners, 24, answers, sizeof answers));
+    print_rows(answers, sizeof answers);
 }
 
 int main(void)
@@ -65,6 +89,8 @@ int main(void)
     mc33_cube steep = {{9, -1, -1, -1, -1, -1, 9, -1}};
     mc33_cube flat = {{1, 1, 1, 1, 1, 1, 1, 1}};
     mc33_cube unpaired = {{-1, -1, 1, -1, -1, 1, -1, -1}};
+    mc33_cube zeros = {{1, 0, 1, -0.0f, 0, -0.0f, 0, -0.0f}};
+    mc33_cube broken = {{(float)HUGE_VAL, 1, 1, 1, 1, 1, 1, 1}};
     float corners[] = {
         1, -1, 1, -1, -1, -1, -1, -1,
         3, -1, -1, -1, -1, -1, 3, -1,
@@ -82,6 +108,12 @@ int main(void)
     print_choice(4, 0, flat);
     print_choice(4, 0, unpaired);
     print_choice(4, 8, level);
+    print_family(5);
+    print_family(250);
+    print_family(255);
+    print_signs(tied);
+    print_signs(zeros);
+    print_signs(broken);
     print_face(tied, 5);
     print_face(tied, -5);
     print_face(tied, 0);
@@ -93,9 +125,10 @@ int main(void)
     printf("root of 6.25: %g\n", mc33_root(6.25f));
     printf("root of ff800000: %08lx\n", (unsigned long)mc33_root_bits(0xff800000u));
 
-    print_list(corners, numbers);
+    print_lists(corners, numbers);
     corners[15] = (float)HUGE_VAL;
-    print_list(corners, numbers);
+    print_lists(corners, numbers);
     print_outcome(mc33_list(NULL, 0, NULL, 0, NULL, 0));
+    print_outcome(mc33_list_signs(NULL, 0, NULL, 0));
     return 0;
 }

@@ -8,8 +8,10 @@
  *          |/          |/       face 1 is y = 0, 2 is x = 1, 3 is y = 1,
  *          0 --------- 1             4 is x = 0, 5 is z = 0, 6 is z = 1
  *
- * The sign rule: corner n is bit n of a cube's number where its value is above 0, whichever side of 0 is inside; case
- * and configuration are looked up by that number. docs/USING.md goes from a grid of distances to a mesh.
+ * The sign rule: a corner belongs to a cube's set if its value is above 0, whichever side of 0 is inside, and bit n of
+ * the set's number is corner n. A zero of either sign does not belong. mc33_family_of has the case and configuration
+ * of a set; mc33_choose_signs and mc33_list_signs find them by themselves. docs/USING.md goes from a grid of distances
+ * to a mesh.
  *
  * Codes of a choice, with the names of their tables (mc33_tiling_name):
  *
@@ -23,7 +25,7 @@
  * Link with libmc33_c.a, or with libmc33.so (x86-64 Linux). Nothing here allocates, keeps anything between calls or
  * touches memory other than what it is lent, so any number of threads may call at once.
  *
- * Every function takes any numbers of its types; C cuts a larger int to int8_t without a word. What a function cannot
+ * Every function takes any numbers of its types; C cuts a larger int to 8 bits without a word. What a function cannot
  * answer it refuses, with one of the numbers below: `refusal` is 0 where there is an answer, and where there is none
  * the other fields are 0, but for the place in a list. So look at `refusal` first. */
 #ifndef MC33_H
@@ -40,16 +42,18 @@ extern "C" {
  * wrongly (the bytes of a row, the layout of a record, the meaning of a code) or would no longer build, since a name is
  * gone; the shared object's name has it, as libmc33.so.5. The minor number moves where something is added: a function,
  * a refusal's number, so keep a `default` in a switch over refusals, or what is counted: from 2.1 on `unsettled` counts
- * blank readings too. From 3.0 on a choice has `unmatched`, from 4.0 on `readings`, and from 5.0 on a row has both. */
+ * blank readings too. From 3.0 on a choice has `unmatched`, from 4.0 on `readings`, from 5.0 on a row has both, and
+ * from 5.1 on there are mc33_family_of, mc33_choose_signs and mc33_list_signs. */
 #define MC33_VERSION_MAJOR 5
-#define MC33_VERSION_MINOR 0
+#define MC33_VERSION_MINOR 1
 #define MC33_VERSION (1000 * MC33_VERSION_MAJOR + MC33_VERSION_MINOR)
 
 /* MC33_VERSION of the library that is linked. With another major number than this header's nothing else here holds. */
 uint32_t mc33_version(void);
 
-/* Refusals. Order: a choice 1, 2, 3; a face test 4, 3; an edge reading 5, 3; a list 6, 7, then its cubes from the
- * first, each 1, 2, 3. 8 is the text program's, and there is no 9. mc33_refusal_text has the words. */
+/* Refusals. Order: a choice 1, 2, 3, and by the signs 3 alone; a face test 4, 3; an edge reading 5, 3; a list 6, 7,
+ * then its cubes from the first, each as a choice. 8 is the text program's, and there is no 9. mc33_refusal_text has
+ * the words. */
 enum {
     MC33_ANSWERED = 0,
     MC33_NO_CASE = 1,          /* the case is below 0 or above 14 */
@@ -57,7 +61,7 @@ enum {
     MC33_NOT_FINITE = 3,       /* a corner is a NaN or infinite */
     MC33_NO_FACE = 4,          /* the face number is not -6..-1 or 1..6 */
     MC33_NO_EDGE = 5,          /* the edge number is not 0..11 */
-    MC33_UNEVEN_LISTS = 6,     /* a list without 8 corner values and 2 numbers a cube */
+    MC33_UNEVEN_LISTS = 6,     /* a list without 8 corner values (and 2 numbers) a cube */
     MC33_NO_ROOM = 7,          /* a list with fewer than MC33_ROW_BYTES answer bytes a cube */
     MC33_MALFORMED = 8         /* the text program: a line that is malformed */
 };
@@ -73,6 +77,11 @@ enum {
 typedef struct {
     float c[8];
 } mc33_cube;
+
+/* A case (0 to 14) with one of its configurations; case 0 has -1 alone. */
+typedef struct {
+    int8_t case_number, configuration;
+} mc33_family;
 
 /* A choice: code, row and column of the tiling, 1 where it is drawn with the centre, and how many of its edge readings
  * were unsettled (0 to 3), that is crossed with a product equal to zero, or blank: so many times the inside hung on a
@@ -118,6 +127,16 @@ typedef struct {
 /* Chooses the tiling for a case (0 to 14), one of its configurations (-1 alone for case 0) and a cube. */
 mc33_choice mc33_choose(int8_t case_number, int8_t configuration, mc33_cube cube);
 
+/* The family of a set of corners, whose bit n is corner n. Any number has one: 0 and 255 have case 0, and each other
+ * set is the only one of its case and configuration. 5, corners 0 and 2, is case 3, configuration 0. The table is
+ * proved to be what its rule says (docs/PROOFS.md). */
+mc33_family mc33_family_of(uint8_t set);
+
+/* Chooses the tiling for a cube by its signs: as mc33_choose for the family of the set of its corners above 0. A zero
+ * of either sign does not belong to the set. MC33_NOT_FINITE is its only refusal. Where no corner is a zero `unmatched`
+ * is 0. */
+mc33_choice mc33_choose_signs(mc33_cube cube);
+
 /* Tests a face: -6..-1 or 1..6. */
 mc33_face_answer mc33_face(mc33_cube cube, int8_t face);
 
@@ -130,9 +149,10 @@ float mc33_root(float x);
 /* The same on bit patterns. The root of a NaN and of a value below zero is always 7fc00000. */
 uint32_t mc33_root_bits(uint32_t bits);
 
-/* A cube's answer bytes in a list, its row: code, row, column, centre + 2 * unsettled, unmatched, readings. MC33_EMPTY is
- * six zeros; MC33_NO_TILING is followed by the configuration, the sub-configuration, 0, 0 and 6. Before 5.0 a row was
- * the first four of these bytes. A list of such rows bears no mark: whoever stores rows should store the version too. */
+/* A cube's answer bytes in a list, its row: code, row, column, centre + 2 * unsettled, unmatched, readings. MC33_EMPTY
+ * is six zeros; MC33_NO_TILING is followed by the configuration, the sub-configuration, 0, 0 and 6. Before 5.0 a row
+ * was the first four of these bytes. A list of such rows bears no mark: whoever stores rows should store the version
+ * too. */
 #define MC33_ROW_BYTES 6
 
 /* Chooses for a list of cubes: 8 corner values a cube, 2 numbers a cube (case and configuration), and MC33_ROW_BYTES
@@ -142,6 +162,10 @@ uint32_t mc33_root_bits(uint32_t bits);
  * three while the call runs. */
 mc33_outcome mc33_list(const float *corners, size_t corners_length, const int8_t *numbers, size_t numbers_length,
                        uint8_t *answers, size_t answers_length);
+
+/* The same by the signs, without numbers: each cube as mc33_choose_signs has it. Its refusals are 6, where the corners
+ * are not 8 values a cube, 7, and then 3 at the first cube with a corner that is a NaN or infinite. */
+mc33_outcome mc33_list_signs(const float *corners, size_t corners_length, uint8_t *answers, size_t answers_length);
 
 /* A refusal in words; 0 too, and a number that this header does not know. */
 static inline const char *mc33_refusal_text(uint64_t refusal)
@@ -153,7 +177,7 @@ static inline const char *mc33_refusal_text(uint64_t refusal)
     case MC33_NOT_FINITE: return "a corner is a NaN or infinite";
     case MC33_NO_FACE: return "the face number is not -6..-1 or 1..6";
     case MC33_NO_EDGE: return "the edge number is not 0..11";
-    case MC33_UNEVEN_LISTS: return "the list has not 8 corner values and 2 numbers a cube";
+    case MC33_UNEVEN_LISTS: return "the list has not 8 corner values (and 2 numbers) a cube";
     case MC33_NO_ROOM: return "the list has fewer than 6 answer bytes a cube";
     case MC33_MALFORMED: return "the line is malformed";
     default: return "a refusal that this version does not know";

@@ -1,4 +1,4 @@
-"""The proved chooser from Python: each routine once, then a list and a refused list. Prints what examples/choose.c
+"""The proved chooser from Python: each routine once, then lists and refused lists. Prints what examples/choose.c
 prints."""
 import mc33
 
@@ -8,6 +8,8 @@ LEVEL = [3, -1, -1, -1, -1, -1, 3, -1]
 STEEP = [9, -1, -1, -1, -1, -1, 9, -1]
 FLAT = [1] * 8
 UNPAIRED = [-1, -1, 1, -1, -1, 1, -1, -1]
+ZEROS = [1, 0.0, 1, -0.0, 0.0, -0.0, 0.0, -0.0]
+BROKEN = [float("inf")] * 8
 CUBES = [TIED, LEVEL, [1, 2, 1, 2, 1, 4, 1, 4]]
 NUMBERS = [3, 0, 4, 0, 13, 0]
 
@@ -20,9 +22,10 @@ def said(routine, *arguments):
         return f"refused {refused.number}"
 
 
-def choice(case, configuration, corners):
-    fields = mc33.choose(case, configuration, corners)._asdict()
-    return " ".join(f"{name} {value}" for name, value in fields.items())
+def fields(routine, *arguments):
+    """The answer's fields by name, or the refusal."""
+    answer = said(routine, *arguments)
+    return answer if isinstance(answer, str) else " ".join(f"{k} {v}" for k, v in answer._asdict().items())
 
 
 def face(corners, number):
@@ -35,9 +38,11 @@ def edge(corners, number):
     return ", ".join([kind, *(f"{name} {value:g}" for name, value in named if value is not None)])
 
 
-def print_list(cubes, numbers, answers):
+def print_list(routine, *lent):
+    """The outcome of a list and its rows; each answer byte is 7 beforehand."""
+    answers = bytearray([7] * (len(lent[0]) // 8 * mc33.ROW))
     try:
-        mc33.choose_list(sum(cubes, []), numbers, answers)
+        routine(*lent, answers)
         print("done")
     except mc33.Refused as refused:
         print(f"refused {refused.number} at {refused.place}")
@@ -45,9 +50,19 @@ def print_list(cubes, numbers, answers):
         print(*answers[place:place + mc33.ROW])
 
 
+def print_lists(corners, numbers):
+    """The cubes with their numbers, then by their signs."""
+    print_list(mc33.choose_list, corners, numbers)
+    print_list(mc33.choose_list_signs, corners)
+
+
 for case, configuration, corners in (
         (3, 0, TIED), (3, 0, APART), (4, 0, LEVEL), (4, 0, FLAT), (4, 0, UNPAIRED), (4, 8, LEVEL)):
-    print(f"case {case}/{configuration}: {said(choice, case, configuration, corners)}")
+    print(f"case {case}/{configuration}: {fields(mc33.choose, case, configuration, corners)}")
+for number in 5, 250, 255:
+    print(f"set {number}: {fields(mc33.family_of, number)}")
+for corners in TIED, ZEROS, BROKEN:
+    print(f"by the signs: {fields(mc33.choose_signs, corners)}")
 for number in 5, -5, 0:
     print(f"face {number}: {said(face, TIED, number)}")
 for corners, number in (LEVEL, 0), (STEEP, 8), (TIED, 0), (FLAT, 0), (TIED, 12):
@@ -55,6 +70,6 @@ for corners, number in (LEVEL, 0), (STEEP, 8), (TIED, 0), (FLAT, 0), (TIED, 12):
 print(f"root of 6.25: {mc33.root(6.25):g}")
 print(f"root of ff800000: {mc33.root_bits(0xff800000):08x}")
 
-print_list(CUBES, NUMBERS, bytearray([7] * 3 * mc33.ROW))
-print_list([TIED, LEVEL[:7] + [float("inf")], CUBES[2]], NUMBERS, bytearray([7] * 3 * mc33.ROW))
-print_list([], [], bytearray())
+print_lists(sum(CUBES, []), NUMBERS)
+print_lists(TIED + LEVEL[:7] + [float("inf")] + CUBES[2], NUMBERS)
+print_lists([], [])

@@ -1,6 +1,6 @@
 /* What include/mc33.h says by itself, held to the library: its version, the configurations of each case, the names of
- * the tilings by document 01's cubes, its examples of what is counted, the size of a row. Prints what differs; the
- * status is how many did. */
+ * the tilings by document 01's cubes, its examples of what is counted, the size of a row, the families of all sets, and
+ * that a choice by the signs is that of the family. Prints what differs; the status is how many did. */
 #include <math.h>
 #include <stdio.h>
 #include <string.h>
@@ -72,7 +72,7 @@ static void texts(void)
         for (k = 0; k < i; k++)
             held((strcmp(mc33_refusal_text((uint64_t)i), mc33_refusal_text((uint64_t)k)) != 0) == (k < 9),
                  "each refusal has a text of its own", i);
-    held(strcmp(mc33_refusal_text(UINT64_MAX), mc33_refusal_text(9)) == 0, "9 is no refusal, and any number has a text", 9);
+    held(strcmp(mc33_refusal_text(UINT64_MAX), mc33_refusal_text(9)) == 0, "9 is no refusal; any number has a text", 9);
 }
 
 /* The header's own examples of what is counted. */
@@ -118,6 +118,77 @@ static void rows(void)
     }
 }
 
+/* 0 and 255 have case 0; each other set is the only one of its case and configuration. */
+static void families(void)
+{
+    static int seen[15][48];
+    int set;
+    for (set = 0; set < 256; set++) {
+        mc33_family family = mc33_family_of((uint8_t)set);
+        int k = family.case_number, c = family.configuration;
+        if (set == 0 || set == 255)
+            held(k == 0 && c == -1, "the family of no corners or all", set);
+        else
+            held(0 < k && 0 <= c && c < mc33_configurations(k) && seen[k][c]++ == 0, "a family of its own", set);
+    }
+    held(mc33_family_of(5).case_number == 3 && mc33_family_of(5).configuration == 0, "corners 0 and 2", 5);
+    held(sizeof(mc33_family) == 2, "a family has 2 bytes", (int)sizeof(mc33_family));
+}
+
+/* A cube with this set, whose corners off it have the same value. */
+static mc33_cube cube_of(int set, float off)
+{
+    mc33_cube cube;
+    int corner;
+    for (corner = 0; corner < 8; corner++)
+        cube.c[corner] = set >> corner & 1 ? 1.0f + (float)corner : off;
+    return cube;
+}
+
+/* The choice by the signs and the row by the signs are those of the set's family. */
+static void by_signs(int set, mc33_cube cube)
+{
+    mc33_family family = mc33_family_of((uint8_t)set);
+    int8_t numbers[2];
+    uint8_t row[MC33_ROW_BYTES], own[MC33_ROW_BYTES];
+    mc33_choice choice = mc33_choose(family.case_number, family.configuration, cube), found = mc33_choose_signs(cube);
+    numbers[0] = family.case_number;
+    numbers[1] = family.configuration;
+    held(choice.refusal == 0 && memcmp(&choice, &found, sizeof choice) == 0, "a choice by the signs", set);
+    held(mc33_list(cube.c, 8, numbers, 2, row, sizeof row).refusal == 0, "a list of one cube", set);
+    held(mc33_list_signs(cube.c, 8, own, sizeof own).refusal == 0, "a list of it by the signs", set);
+    held(memcmp(row, own, sizeof row) == 0, "its row", set);
+}
+
+/* No zero belongs to the set, and without one no pick is without a match. */
+static void signs(void)
+{
+    int set;
+    for (set = 0; set < 256; set++) {
+        by_signs(set, cube_of(set, -2.0f));
+        held(mc33_choose_signs(cube_of(set, -2.0f)).unmatched == 0, "no pick without a match", set);
+        by_signs(set, cube_of(set, 0.0f));
+        by_signs(set, cube_of(set, -0.0f));
+    }
+}
+
+/* The refusals by the signs, and their order. */
+static void signs_refused(void)
+{
+    float corners[16] = {1, 1, 1, 1, 1, 1, 1, 1, -1, -1, -1, -1, -1, -1, -1, (float)HUGE_VAL};
+    mc33_cube infinite = {{1, 1, 1, 1, 1, 1, 1, (float)HUGE_VAL}}, none = {{0, 0, 0, 0, 0, 0, 0, 0}};
+    uint8_t answers[2 * MC33_ROW_BYTES];
+    mc33_outcome said;
+    infinite.c[0] = infinite.c[7] - infinite.c[7];
+    held(mc33_choose_signs(infinite).refusal == MC33_NOT_FINITE, "a cube that is not finite", 3);
+    held(mc33_choose_signs(none).refusal == 0 && mc33_choose_signs(none).code == MC33_EMPTY, "a cube of zeros", 0);
+    held(mc33_list_signs(corners, 15, answers, 0).refusal == MC33_UNEVEN_LISTS, "15 values", 6);
+    held(mc33_list_signs(corners, 16, answers, sizeof answers - 1).refusal == MC33_NO_ROOM, "no room", 7);
+    said = mc33_list_signs(corners, 16, answers, sizeof answers);
+    held(said.refusal == MC33_NOT_FINITE && said.place == 1, "the first cube that is not finite", (int)said.place);
+    held(mc33_list_signs(NULL, 0, NULL, 0).refusal == 0, "no cubes by the signs", 0);
+}
+
 int main(void)
 {
     configurations();
@@ -126,6 +197,9 @@ int main(void)
     counts();
     sizes();
     rows();
+    families();
+    signs();
+    signs_refused();
     printf(wrong ? "header: %d wrong\n" : "header: as the library has it\n", wrong);
     return wrong != 0;
 }

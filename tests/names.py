@@ -1,7 +1,8 @@
 #!/usr/bin/env python3
 """Holds the tables of names that stand in several languages to one: the tilings' names to the proved code's, the
-readings to the proved figures, and the configurations and the refusals' texts to the header's, which header.c beside
-this holds to the library. Prints a line for each; status 1 where one differs."""
+readings to the proved figures, and the configurations, the refusals' texts and the functions to the header's, which
+header.c beside this holds to the library. Prints a line for each; status 1 where one differs."""
+import inspect
 import re
 import sys
 from pathlib import Path
@@ -9,6 +10,7 @@ from pathlib import Path
 TOP = Path(__file__).resolve().parent.parent
 sys.path.insert(0, str(TOP / "python"))
 import mc33  # noqa: E402
+from mc33.library import FUNCTIONS  # noqa: E402
 
 header = (TOP / "include/mc33.h").read_text()
 using = (TOP / "docs/USING.md").read_text()
@@ -82,8 +84,22 @@ def refusals():
     hold("refusals, no 9", [number for number in wanted if number == 9], [])
 
 
+def functions():
+    declared = sorted(re.findall(r"^(?!static)\w.*\b(mc33_\w+)\(", header, re.M))
+    hold("functions, Rust", sorted(re.findall(r"\bfn (mc33_\w+)\(", rust)), declared)
+    hold("functions, Python", sorted(FUNCTIONS), declared)
+    table = within(using, "| | Rattle | C and C++ |", "\n\n")
+    inline = re.findall(r"^static inline .*\b(mc33_\w+)\(", header, re.M)
+    hold("functions, USING", [name for name in declared + inline if f"`{name}`" in table], declared + inline)
+    crate = re.findall(r"^pub fn (\w+)\(", (TOP / "rust/src/lib.rs").read_text(), re.M)
+    hold("Rust's functions, USING", [name for name in crate if f"`{name}`" in table], crate)
+    package = [name for name in mc33.__all__ if inspect.isfunction(getattr(mc33, name))]
+    hold("Python's functions, USING", [name for name in package if f"`{name}`" in table], package)
+
+
 tilings()
 configurations()
 readings()
 refusals()
+functions()
 sys.exit(wrong != 0)

@@ -10,18 +10,13 @@ def corner_steps(tables, size):
 
 
 def ask_layer(tables, values, size, z):
-    """The places of a layer's cubes, their configurations and their choices."""
+    """The places of a layer's cubes and their choices, by the signs of their corners."""
     steps = corner_steps(tables, size)
-    corners, numbers = array("f"), array("b")
     places = [(z * size + y) * size + x for y in range(size - 1) for x in range(size - 1)]
-    for place in places:
-        cube = [values[place + step] for step in steps]
-        above = sum(1 << corner for corner, value in enumerate(cube) if value > 0)
-        corners.extend(cube)
-        numbers.extend(tables.cases[above])
-    return zip(places, numbers[1::2], mc33.choices(mc33.choose_list(corners, numbers)))
+    corners = array("f", (values[place + step] for place in places for step in steps))
+    return zip(places, mc33.choices(mc33.choose_list_signs(corners)))
 
 
 def ask(tables, values, size):
-    """All cubes that are not empty: (place, configuration, choice)."""
-    return [cube for z in range(size - 1) for cube in ask_layer(tables, values, size, z) if cube[2].code]
+    """All cubes that are not empty: (place, choice)."""
+    return [cube for z in range(size - 1) for cube in ask_layer(tables, values, size, z) if cube[1].code]

@@ -5,6 +5,7 @@ A vertex is a number: 3 * place + axis for the point on the grid's edge that lea
 """
 from collections import Counter, namedtuple
 
+from ask import corner_steps
 from chooser import mc33
 
 CENTRE = 12
@@ -12,19 +13,25 @@ CENTRE = 12
 # The rules of drawing (docs/USING.md); without them a tiling is drawn as answered.
 RULES = frozenset(["turn", "own row", "centre"])
 
+# The tilings that may be answered at another row than their configuration's.
+OTHER_ROWS = "10_1_2", "12_1_2", "13_5_2"
+
 # Edges with an odd number of triangles; with an even number that do not run it as often one way as the other; run as
 # often both ways, by four triangles or more; centres outside their cube; cubes without a tiling.
 Faults = namedtuple("Faults", "open wrongly_wound fourfold astray untiled")
 
 
-def triangles_of(tables, choice, configuration, rules):
-    """The triangles of a choice, as triples of edge numbers."""
-    row, turn = choice.row, False
-    if row != configuration:
-        if choice.name == "13_5_2" and "own row" in rules:
-            row = configuration
-        else:
-            turn = "turn" in rules
+def drawn_row(choice, configuration, rules):
+    """The row to draw of one of OTHER_ROWS, and whether to turn its triangles."""
+    if choice.row == configuration:
+        return choice.row, False
+    if choice.name == "13_5_2" and "own row" in rules:
+        return configuration, False
+    return choice.row, "turn" in rules
+
+
+def triangles_of(tables, choice, row, turn):
+    """The triangles of a choice at a row, as triples of edge numbers."""
     flat = tables.tilings[choice.code][row][choice.column]
     return [(a, c, b) if turn else (a, b, c) for a, b, c in zip(flat[::3], flat[1::3], flat[2::3])]
 
@@ -34,6 +41,7 @@ class Mesh:
         self.values, self.size = values, size
         self.triangles, self.points, self.astray, self.untiled = [], {}, 0, 0
         self.strides = (1, size, size * size)
+        self.corner_steps = corner_steps(tables, size)
         self.steps = [self._edge_step(tables, edge) for edge in range(12)] + [3 * size ** 3]
         self.last = (0.0, 0.0, 0.0)
 
@@ -60,12 +68,19 @@ class Mesh:
         found = [point for step in self.steps[:CENTRE] if (point := self.crossing(3 * place + step))]
         return tuple(sum(part) / len(found) for part in zip(*found))
 
-    def add(self, tables, place, configuration, choice, rules):
+    def configuration(self, place):
+        """The configuration of the cube at `place`: that of the set of its corners above 0."""
+        above = (self.values[place + step] > 0 for step in self.corner_steps)
+        return mc33.family_of(sum(1 << corner for corner, belongs in enumerate(above) if belongs)).configuration
+
+    def add(self, tables, place, choice, rules):
         if choice.code == mc33.NO_TILING:
             self.untiled += 1
             return
-        steps = self.steps
-        for triple in triangles_of(tables, choice, configuration, rules):
+        row, turn, steps = choice.row, False, self.steps
+        if choice.name in OTHER_ROWS:
+            row, turn = drawn_row(choice, self.configuration(place), rules)
+        for triple in triangles_of(tables, choice, row, turn):
             if CENTRE in triple:
                 self._add_centre(place, choice.centre or "centre" in rules)
             self.triangles.append(tuple(
@@ -107,8 +122,8 @@ class Mesh:
 
 def draw(tables, values, size, cubes, rules=RULES):
     mesh = Mesh(tables, values, size)
-    for place, configuration, choice in cubes:
-        mesh.add(tables, place, configuration, choice, rules)
+    for place, choice in cubes:
+        mesh.add(tables, place, choice, rules)
     return mesh
 
 

@@ -21,7 +21,7 @@ def is_ambiguous(choice):
 
 
 def tilings(cubes):
-    return [choice[:3] for _, _, choice in cubes if is_ambiguous(choice)]
+    return [choice[:3] for _, choice in cubes if is_ambiguous(choice)]
 
 
 def main(checkout, name="rough", size="64"):

@@ -22,13 +22,12 @@ def _columns(row):
 
 
 class Tables:
-    """cases[set] is [case, configuration]; tilings[code][row][column] the numbers of a tiling, three a triangle;
-    edges[number] the two corners of an edge; offsets[corner] the x, y, z of a corner."""
+    """tilings[code][row][column] the numbers of a tiling, three a triangle; edges[number] the two corners of an edge;
+    offsets[corner] the x, y, z of a corner."""
 
     def __init__(self, checkout):
         voxel = Path(checkout) / "src" / "voxel"
         text = re.sub(r"/\*.*?\*/|//[^\n]*", "", _read(voxel / "meshing" / "lookup_table.rs"), flags=re.S)
-        self.cases = _table(text, "CASES")
         self.tilings = [None]
         for name in mc33.TILINGS.values():
             self.tilings.append([_columns(row) for row in _table(text, "TILING_" + name)])

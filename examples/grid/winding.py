@@ -53,7 +53,8 @@ def judge(tables, above, tiling):
 
 def places(tables):
     """Every place that a choice can name: name, configuration, row, column, and what the winding is there."""
-    for above, (case, configuration) in enumerate(tables.cases):
+    for above in range(256):
+        case, configuration = mc33.family_of(above)
         for code, name in mc33.TILINGS.items():
             if int(name.split("_")[0]) == case:
                 for row in rows_of(name, configuration):
@@ -70,7 +71,8 @@ def main(checkout):
     for (name, own), number in turned.items():
         print(f"{name}, row {'of the configuration' if own else 'of another configuration'}: {number} turned")
     [code] = [code for code, name in mc33.TILINGS.items() if name == "13_5_2"]
-    own = [judge(tables, above, tiling) for above, (case, row) in enumerate(tables.cases) if case == 13
+    families = [(above, *mc33.family_of(above)) for above in range(256)]
+    own = [judge(tables, above, tiling) for above, case, row in families if case == 13
            for tiling in tables.tilings[code][row]]
     print(f"13_5_2, drawn at the configuration's own row: {dict(Counter(own))}")
 

@@ -24,6 +24,10 @@ class ChoiceRecord(ctypes.Structure):
         "refusal", "code", "row", "column", "centre", "unsettled", "unmatched", "readings")]
 
 
+class FamilyRecord(ctypes.Structure):
+    _fields_ = [("case", c_int8), ("configuration", c_int8)]
+
+
 class FaceRecord(ctypes.Structure):
     _fields_ = [("refusal", c_uint8), ("answer", c_uint8)]
 
@@ -40,11 +44,14 @@ class OutcomeRecord(ctypes.Structure):
 FUNCTIONS: Dict[str, Tuple[Any, List[Any]]] = {
     "mc33_version": (c_uint32, []),
     "mc33_choose": (ChoiceRecord, [c_int8, c_int8, CubeRecord]),
+    "mc33_family_of": (FamilyRecord, [c_uint8]),
+    "mc33_choose_signs": (ChoiceRecord, [CubeRecord]),
     "mc33_face": (FaceRecord, [CubeRecord, c_int8]),
     "mc33_edge": (EdgeRecord, [CubeRecord, c_int8]),
     "mc33_root": (c_float, [c_float]),
     "mc33_root_bits": (c_uint32, [c_uint32]),
     "mc33_list": (OutcomeRecord, 3 * [c_void_p, c_size_t]),
+    "mc33_list_signs": (OutcomeRecord, 2 * [c_void_p, c_size_t]),
 }
 
 
@@ -60,7 +67,8 @@ def _declare(library: ctypes.CDLL, path: str) -> None:
         try:
             function = getattr(library, name)
         except AttributeError:
-            raise ImportError(f"{path} has no {name}, so it is not mc33's shared object. {HOW}", path=path) from None
+            what = f"it is not mc33's shared object, or one before version {VERSION}"
+            raise ImportError(f"{path} has no {name}, so {what}. {HOW}", path=path) from None
         function.restype, function.argtypes = gives, takes
 
 

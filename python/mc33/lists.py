@@ -1,24 +1,37 @@
 """Choices for lists of cubes."""
 from __future__ import annotations
 
-from typing import Any, Iterable, TypeVar, overload
+from typing import Any, Iterable, Sequence, Tuple, TypeVar, overload
 
-from .buffers import ANSWERS, CORNERS, NUMBERS, address, check, check_apart, check_room, count, held, held_room
+from .buffers import ANSWERS, CORNERS, NUMBERS, Items, address, check, check_apart, check_room, count, held, held_room
 from .library import loaded
 from .refusals import Refused
 from .tables import ROW
 
 Room = TypeVar("Room")
+Lent = Tuple[memoryview, Items]
 
 
-def _fill(corners: memoryview, numbers: memoryview, answers: memoryview) -> None:
+def _fill(name: str, given: Sequence[Lent], answers: memoryview) -> None:
+    """Lends the library's list function what is given, and the answers."""
     check_room(answers)
-    check_apart(answers, corners, CORNERS)
-    check_apart(answers, numbers, NUMBERS)
-    lent = (corners, CORNERS), (numbers, NUMBERS), (answers, ANSWERS)
-    outcome = loaded().mc33_list(*(part for view, items in lent for part in (address(view), count(view, items))))
+    for view, items in given:
+        check_apart(answers, view, items)
+    lent = *given, (answers, ANSWERS)
+    outcome = getattr(loaded(), name)(*(part for view, items in lent for part in (address(view), count(view, items))))
     if outcome.refusal:
         raise Refused(outcome.refusal, outcome.place)
+
+
+def _answered(name: str, given: Sequence[Lent], answers: Any) -> Any:
+    """The answers, a new bytearray where there are none, with a row for each cube; `given` begins with the corners."""
+    for view, items in given:
+        check(view, items)
+    if answers is None:
+        answers = bytearray(count(*given[0]) // CORNERS.width * ROW)
+    with held_room(answers) as room:
+        _fill(name, given, room)
+    return answers
 
 
 @overload
@@ -47,10 +60,26 @@ def choose_list(corners: Iterable[float], numbers: Iterable[int], answers: Any =
     Raises Refused with the number and the cube's place; a refused list has every answer byte unchanged.
     """
     with held(corners, CORNERS) as cubes, held(numbers, NUMBERS) as pairs:
-        check(cubes, CORNERS)
-        check(pairs, NUMBERS)
-        if answers is None:
-            answers = bytearray(count(cubes, CORNERS) // CORNERS.width * ROW)
-        with held_room(answers) as room:
-            _fill(cubes, pairs, room)
-    return answers
+        return _answered("mc33_list", [(cubes, CORNERS), (pairs, NUMBERS)], answers)
+
+
+@overload
+def choose_list_signs(  # type: ignore[misc]  # as above
+    corners: Iterable[float], answers: None = None) -> bytearray: ...
+
+
+@overload
+def choose_list_signs(corners: Iterable[float], answers: Room) -> Room: ...
+
+
+def choose_list_signs(corners: Iterable[float], answers: Any = None) -> Any:
+    """Chooses for a list of cubes by their signs, as `choose_signs` for each: 8 corner values a cube, and no numbers.
+
+    Corners and answers are taken, held and given as in `choose_list`, and the rows are the same. A corner belongs to
+    its cube's set if its value is above 0; a zero of either sign does not.
+
+    Raises Refused 6, 7, or 3 with the place of the first cube that is not finite; a refused list has every answer byte
+    unchanged.
+    """
+    with held(corners, CORNERS) as cubes:
+        return _answered("mc33_list_signs", [(cubes, CORNERS)], answers)

@@ -12,7 +12,7 @@ REFUSALS: Dict[int, str] = {
     3: "a corner is a NaN or infinite",
     4: "the face number is not -6..-1 or 1..6",
     5: "the edge number is not 0..11",
-    6: "the list has not 8 corner values and 2 numbers a cube",
+    6: "the list has not 8 corner values (and 2 numbers) a cube",
     7: f"the list has fewer than {ROW} answer bytes a cube",
     8: "the line is malformed",
 }

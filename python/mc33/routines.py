@@ -3,7 +3,7 @@ from __future__ import annotations
 
 from typing import Iterable, NamedTuple, Optional
 
-from .library import CubeRecord, loaded
+from .library import ChoiceRecord, CubeRecord, loaded
 from .refusals import Refused
 from .rows import Choice
 from .tables import EMPTY, NO_TILING, TILINGS
@@ -24,6 +24,13 @@ class Reading(NamedTuple):
     product: Optional[float] = None
 
 
+class Family(NamedTuple):
+    """A case (0 to 14) with one of its configurations; case 0 has -1 alone."""
+
+    case: int
+    configuration: int
+
+
 def _cube(corners: Iterable[float]) -> CubeRecord:
     values = list(corners)
     if len(values) != 8:
@@ -42,7 +49,31 @@ def choose(case: int, configuration: int, corners: Iterable[float]) -> Choice:
     Raises Refused 1, 2 and 3, in this order.
     """
     numbers = whole("case", case), whole("configuration", configuration)
-    said = loaded().mc33_choose(*numbers, _cube(corners))
+    return _chosen(loaded().mc33_choose(*numbers, _cube(corners)))
+
+
+def family_of(corner_set: int) -> Family:
+    """The case and configuration of a set of corners, 0..255, whose bit n is corner n.
+
+    The set of a cube is that of its corners above 0; a zero of either sign does not belong to it. 0 and 255 have
+    case 0, and each other set is the only one of its case and configuration. The table that is looked into is proved
+    to be what its rule says (docs/PROOFS.md of the repository).
+    """
+    said = loaded().mc33_family_of(whole("corner_set", corner_set, "B"))
+    return Family(said.case, said.configuration)
+
+
+def choose_signs(corners: Iterable[float]) -> Choice:
+    """Chooses the tiling for 8 corner values by their signs: as `choose` for the family of the set of corners above 0.
+
+    A zero of either sign does not belong to the set. Where no corner is a zero `unmatched` is 0.
+
+    Raises Refused 3 alone.
+    """
+    return _chosen(loaded().mc33_choose_signs(_cube(corners)))
+
+
+def _chosen(said: ChoiceRecord) -> Choice:
     _look_at(said.refusal)
     if said.code not in TILINGS and said.code not in (EMPTY, NO_TILING):
         raise ValueError(f"the library gave code {said.code}, which this version does not know")

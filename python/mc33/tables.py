@@ -1,4 +1,4 @@
-"""What documents 01 and 02 count: the codes with their names, and for each case its configurations and most readings."""
+"""What documents 01 and 02 count: the codes with their names; each case's configurations and most readings."""
 from __future__ import annotations
 
 from typing import Dict

@@ -1,4 +1,4 @@
-"""What choose_list costs on a million cubes beside a bare call of the library: python3 -m tests.speed, by hand.
+"""What a list costs on a million cubes beside a bare call of the library: python3 -m tests.speed, by hand.
 
 Each round times the kinds of call one after the other; the ratio is that of the fastest rounds. numpy's arrays are
 timed where numpy is there. Status 1 where a ratio is above LIMIT.
@@ -14,24 +14,24 @@ CUBES = 1_000_000
 ROUNDS = 15
 LIMIT = 1.1
 CUBE = [3, -1, -1, -1, -1, -1, 3, -1]
+CORNERS = array("f", CUBE) * CUBES
 
 
-def calls(case):
-    corners, numbers = array("f", CUBE) * CUBES, array("b", [case, 0]) * CUBES
+def calls(routine, bare, *given):
+    """The kinds of call of a list routine, and first the bare call of the library's function."""
     answers = array("B", bytes(mc33.ROW * CUBES))
-    lent = *corners.buffer_info(), *numbers.buffer_info(), *answers.buffer_info()
-    bare, kept = loaded().mc33_list, (corners, numbers, answers)
+    kept = (*given, answers)
+    lent = [part for values in kept for part in values.buffer_info()]
     yield "a bare call", lambda kept=kept: bare(*lent)
-    yield "array", lambda: mc33.choose_list(*kept)
-    yield "array, new answers", lambda: mc33.choose_list(corners, numbers)
+    yield "array", lambda: routine(*kept)
+    yield "array, new answers", lambda: routine(*given)
     try:
         import numpy
     except ImportError:
         return
-    shapes = zip(kept, (8, 2, mc33.ROW))
-    arrays = [numpy.frombuffer(values, values.typecode).reshape(-1, width) for values, width in shapes]
-    yield "numpy", lambda: mc33.choose_list(*arrays)
-    yield "numpy, new answers", lambda: mc33.choose_list(*arrays[:2])
+    arrays = [numpy.frombuffer(values, values.typecode).reshape(CUBES, -1) for values in kept]
+    yield "numpy", lambda: routine(*arrays)
+    yield "numpy, new answers", lambda: routine(*arrays[:-1])
 
 
 def timed(call):
@@ -40,17 +40,25 @@ def timed(call):
     return perf_counter() - start
 
 
-def greatest_ratio(case):
-    """Prints the times of a case's cubes."""
-    named = dict(calls(case))
+def greatest_ratio(what, *routine_and_lent):
+    """Prints the times of a routine's kinds of call."""
+    named = dict(calls(*routine_and_lent))
     rounds = [[timed(call) for call in named.values()] for _ in range(ROUNDS)]
     fastest = [min(times) for times in zip(*rounds)]
     ratios = [time / fastest[0] for time in fastest]
     for name, time, ratio in zip(named, fastest, ratios):
-        print(f"case {case}, {name}: {1000 * time:.2f} ms for {CUBES} cubes, {ratio:.3f} times a bare call")
+        print(f"{what}, {name}: {1000 * time:.2f} ms for {CUBES} cubes, {ratio:.3f} times a bare call")
     return max(ratios)
 
 
-if __name__ == "__main__":
+def main():
     # Case 1 is chosen without a look at the corners, so nothing is faster; case 4 reads three edges.
-    sys.exit(max(greatest_ratio(1), greatest_ratio(4)) > LIMIT)
+    given = [array("b", [case, 0]) * CUBES for case in (1, 4)]
+    ratios = [greatest_ratio(f"case {numbers[0]}", mc33.choose_list, loaded().mc33_list, CORNERS, numbers)
+              for numbers in given]
+    ratios.append(greatest_ratio("by the signs", mc33.choose_list_signs, loaded().mc33_list_signs, CORNERS))
+    return max(ratios) > LIMIT
+
+
+if __name__ == "__main__":
+    sys.exit(main())

@@ -17,6 +17,8 @@ UNTILED = [1, 2, 1, 2, 1, 4, 1, 4]
 CORNERS = TIED + LEVEL + UNTILED
 NUMBERS = [3, 0, 4, 0, 13, 0]
 ROWS = bytes([4, 0, 0, 0, 0, 1, 6, 0, 0, 6, 0, 3, 255, 0, 5, 0, 0, 6])
+# The rows of the same corners by their signs: the last are all above 0.
+ROWS_BY_SIGNS = ROWS[:12] + bytes(6)
 
 needs_numpy = unittest.skipUnless(numpy, "numpy is not there")
 

@@ -12,7 +12,7 @@ import mc33
 from mc33 import files
 from mc33.command import main
 
-from .support import CORNERS, NUMBERS, ROWS, needs_numpy, numpy, run
+from .support import CORNERS, NUMBERS, ROWS, ROWS_BY_SIGNS, needs_numpy, numpy, run
 
 INFINITE = array("f", CORNERS[:15] + [float("inf")] + CORNERS[16:]).tobytes()
 
@@ -36,8 +36,8 @@ class Command(unittest.TestCase):
     def file(self, name, data):
         (self.folder / name).write_bytes(data)
 
-    def run_list(self, *names, **others):
-        return run("-m", "mc33", "list", *names, cwd=self.folder, **others)
+    def run_list(self, *names, subcommand="list", **others):
+        return run("-m", "mc33", subcommand, *names, cwd=self.folder, **others)
 
     def done(self, *names, **others):
         ended = self.run_list(*names, **others)
@@ -90,10 +90,38 @@ class Done(Command):
         self.assertEqual(self.done("/dev/null", "/dev/null", "-"), b"")
 
     def test_help_and_version(self):
-        for words, *arguments in (b"list", "--help"), (b"corners", "list", "--help"), (b"mc33 5.0.0\n", "--version"):
+        for words, *arguments in (
+                (b"list", "--help"), (b"list-signs", "--help"), (b"numbers", "list", "--help"),
+                (b"above 0", "list-signs", "--help"), (b"mc33 5.1.0\n", "--version")):
             ended = run("-m", "mc33", *arguments, library="/nowhere")
             self.assertEqual((ended.returncode, ended.stderr), (0, b""))
             self.assertIn(words, ended.stdout)
+
+
+class BySigns(Command):
+    def test_done(self):
+        self.file("c.npy", npy("<f4", "(3, 8)", self.corners))
+        self.done("c", "a", subcommand="list-signs")
+        self.assertEqual((self.folder / "a").read_bytes(), ROWS_BY_SIGNS)
+        self.done("c.npy", "a.npy", subcommand="list-signs")
+        self.assertTrue((self.folder / "a.npy").read_bytes().endswith(b"\n" + ROWS_BY_SIGNS))
+        self.assertEqual(self.done("-", "-", subcommand="list-signs", input=self.corners), ROWS_BY_SIGNS)
+        self.assertEqual(self.done("/dev/null", "-", subcommand="list-signs"), b"")
+
+    def test_refused(self):
+        self.file("c", INFINITE)
+        self.failed("cube 1 refused 3: a corner is a NaN", "c", "a", status=1, subcommand="list-signs")
+        self.file("c", self.corners[:-4])
+        self.failed("refused 6: ", "c", "a", status=1, subcommand="list-signs")
+        self.assertFalse((self.folder / "a").exists())
+
+    def test_failed(self):
+        self.failed("No such file.*'none'", "none", "a", subcommand="list-signs")
+        self.failed("No space left.*'/dev/full'", "c", "/dev/full", subcommand="list-signs")
+        for names in ([], ["c"], ["c", "n", "a"]):
+            ended = self.run_list(*names, subcommand="list-signs")
+            self.assertEqual(ended.returncode, 2)
+            self.assertIn(b"usage: python3 -m mc33", ended.stderr)
 
 
 class Refused(Command):

@@ -10,7 +10,7 @@ import mc33
 from mc33 import lists
 from mc33.library import OutcomeRecord
 
-from .support import CORNERS, LEVEL, NUMBERS, ROWS, TIED, UNTILED, needs_numpy, numpy, run
+from .support import CORNERS, LEVEL, NUMBERS, ROWS, ROWS_BY_SIGNS, TIED, UNTILED, needs_numpy, numpy, run
 
 # The other thread runs where the call lets it, and not before.
 SHRINK = """
@@ -51,9 +51,9 @@ with multiprocessing.Pool(1) as pool:
 
 
 def fake_list(refusal=0, place=0):
-    """A library whose list gives this outcome; its arguments can be looked at."""
+    """A library whose lists give this outcome; their arguments can be looked at."""
     library = mock.Mock()
-    library.mc33_list.return_value = OutcomeRecord(refusal, place)
+    library.mc33_list.return_value = library.mc33_list_signs.return_value = OutcomeRecord(refusal, place)
     return library
 
 
@@ -274,3 +274,78 @@ class RefusedLists(unittest.TestCase):
         with mock.patch.object(lists, "loaded", lambda: fake_list(12, 3)):
             with self.assertRaisesRegex(mc33.Refused, "^cube 3 refused 12: .*does not know"):
                 mc33.choose_list(CORNERS, NUMBERS)
+
+
+class BySigns(unittest.TestCase):
+    """Lists without numbers: the same memory is taken, but for the numbers."""
+
+    def rows(self, corners=CORNERS, answers=None):
+        given = mc33.choose_list_signs(corners, answers)
+        self.assertEqual(bytes(given), ROWS_BY_SIGNS)
+        return given
+
+    def addresses(self, *lent):
+        library = fake_list()
+        with mock.patch.object(lists, "loaded", lambda: library):
+            mc33.choose_list_signs(*lent)
+        library.mc33_list.assert_not_called()
+        return library.mc33_list_signs.call_args.args
+
+    def test_rows_are_the_single_choices(self):
+        random = Random(5)
+        cubes = [[random.choice((-2, -1, -0.0, 0.0, 1, 2, 3)) for _ in range(8)] for _ in range(5000)]
+        choices = mc33.choices(mc33.choose_list_signs(sum(cubes, [])))
+        self.assertEqual(choices, [mc33.choose_signs(cube) for cube in cubes])
+        self.assertEqual({choice.name.split("_")[0] for choice in choices}, {"", *map(str, range(1, 15))})
+
+    def test_what_is_taken(self):
+        self.assertIsInstance(self.rows(), bytearray)
+        floats, room = array("f", CORNERS), bytearray(len(ROWS))
+        for corners in (iter(CORNERS), floats, memoryview(floats.tobytes()).cast("f", (3, 8))):
+            self.rows(corners)
+        for answers in (room, memoryview(room), memoryview(bytearray(room)).cast("B", (3, mc33.ROW))):
+            self.assertIs(self.rows(answers=answers), answers)
+        self.assertEqual(mc33.choose_list_signs(CORNERS, bytearray(b"\7" * 20)), ROWS_BY_SIGNS + b"\7" * 2)
+        self.assertEqual(mc33.choose_list_signs([]), b"")
+
+    def test_no_copy_is_made(self):
+        corners, answers = array("f", CORNERS), array("B", ROWS)
+        self.assertEqual(self.addresses(corners, answers), (*corners.buffer_info(), *answers.buffer_info()))
+
+    @needs_numpy
+    def test_numpy(self):
+        corners, answers = numpy.array(CORNERS, "f4").reshape(3, 8), numpy.zeros((3, mc33.ROW), "u1")
+        self.assertIs(self.rows(corners, answers), answers)
+        self.assertEqual(self.addresses(corners, answers), (corners.ctypes.data, 24, answers.ctypes.data, 18))
+        self.rows(corners.reshape(-1))
+
+    def test_unfit(self):
+        memory = memoryview(bytearray(96))
+        for error, words, *lent in (
+                (TypeError, "corners .*'d'.*f32", array("d", CORNERS)),
+                (ValueError, r"corners .*\(6, 4\).*\(n, 8\)", memory.cast("f", (6, 4))),
+                (BufferError, "corners .*contiguous", memory.cast("f")[::2]),
+                (BufferError, "answers are read-only", CORNERS, ROWS),
+                (TypeError, "answers .*no buffer", CORNERS, list(ROWS)),
+                (ValueError, "answers overlap corners", memory.cast("f"), memory[90:]),
+                (TypeError, r"corners\[1\] is 'x'", [1, "x"])):
+            with self.assertRaisesRegex(error, words):
+                mc33.choose_list_signs(*lent)
+
+    def test_refusals(self):
+        for number, place, corners, room in (
+                (6, 0, CORNERS[:-1] + [float("nan")] * 2, 0), (7, 0, CORNERS[:-1] + [float("nan")], len(ROWS) - 1),
+                (3, 2, CORNERS[:-1] + [float("nan")], len(ROWS)), (3, 0, [float("inf")] + CORNERS[1:], len(ROWS))):
+            answers = bytearray(b"\7" * room)
+            with self.assertRaises(mc33.Refused) as caught:
+                mc33.choose_list_signs(corners, answers)
+            self.assertEqual((caught.exception.number, caught.exception.place), (number, place))
+            self.assertEqual(answers, b"\7" * room)
+
+    def test_nothing_is_held_after_an_error(self):
+        corners, answers = array("f", TIED + [float("inf")] * 8), bytearray(2 * mc33.ROW)
+        with self.assertRaises(mc33.Refused) as caught:
+            mc33.choose_list_signs(corners, answers)
+        self.assertIsNotNone(caught.exception)
+        corners.append(1)
+        answers.append(1)

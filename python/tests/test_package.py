@@ -32,7 +32,7 @@ class Package(unittest.TestCase):
             self.assertTrue(hasattr(mc33, name), name)
         public = {name for name, value in vars(mc33).items() if name[0] != "_" and not inspect.ismodule(value)}
         self.assertEqual(public, set(mc33.__all__))
-        self.assertEqual(mc33.__version__, "5.0.0")
+        self.assertEqual(mc33.__version__, "5.1.0")
 
     def test_hints_and_words(self):
         self.assertTrue((Path(mc33.__file__).parent / "py.typed").exists())
@@ -93,6 +93,12 @@ class Library(unittest.TestCase):
             made = self.made(others + f"unsigned mc33_version(void) {{ return {major}001; }}")
             words = rf"made\.so has version {major}\.1, .* {VERSION} .* needs {MAJOR}\. .*install\.sh"
             self.assertRegex(self.said(made), words)
+
+    def test_an_earlier_minor_version(self):
+        later = "mc33_family_of", "mc33_choose_signs", "mc33_list_signs"
+        others = "".join(f"void {name}(void) {{}}\n" for name in FUNCTIONS if name not in later)
+        words = rf"made\.so has no mc33_family_of.* before version {VERSION}\. .*install\.sh"
+        self.assertRegex(self.said(self.made(others)), words)
 
     def test_a_later_minor_version(self):
         others = "".join(f"void {name}(void) {{}}\n" for name in FUNCTIONS if name != "mc33_version")

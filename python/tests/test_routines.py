@@ -2,6 +2,7 @@
 import math
 import unittest
 from array import array
+from itertools import product
 from random import Random
 from unittest import mock
 
@@ -12,8 +13,8 @@ from mc33.library import ChoiceRecord, EdgeRecord, FaceRecord
 from .support import LEVEL, TIED, needs_numpy, numpy
 
 # Document 01, 'Cubes to check by hand': case, configuration, corners that are not the last number, name, row, and
-# unsettled where it is said there or in document 02, Change 2; then readings by Change 7. A diagonal matches in each that
-# picks an edge.
+# unsettled where it is said there or in document 02, Change 2; then readings by Change 7. A diagonal matches in each
+# that picks an edge.
 BY_HAND = [
     (3, 0, {0: 2, 2: 2}, -1, "3_2", 0, None, 1),
     (3, 0, {0: 1, 2: 1, 1: -2, 3: -2}, -1, "3_1", 0, None, 1),
@@ -115,7 +116,9 @@ class Choose(unittest.TestCase):
     @needs_numpy
     def test_numpy(self):
         for kind in ("f4", "f8", "i4", ">f4"):
-            self.assertEqual(mc33.choose(numpy.int8(4), numpy.int64(0), numpy.array(LEVEL, kind)), (6, 0, 0, 0, 3, 0, 3))
+            level = numpy.array(LEVEL, kind)
+            self.assertEqual(mc33.choose(numpy.int8(4), numpy.int64(0), level), (6, 0, 0, 0, 3, 0, 3))
+            self.assertEqual(mc33.choose_signs(level), (6, 0, 0, 0, 3, 0, 3))
 
     def test_refusals(self):
         self.assertEqual(said(mc33.choose, 4, 0, LEVEL[:7] + [math.inf]), 3)
@@ -132,12 +135,43 @@ class Choose(unittest.TestCase):
             library.mc33_choose.return_value = ChoiceRecord(13)
             with self.assertRaisesRegex(mc33.Refused, "^refused 13: .*does not know"):
                 mc33.choose(3, 0, TIED)
+            library.mc33_choose_signs.return_value = ChoiceRecord(0, 39)
+            with self.assertRaisesRegex(ValueError, "code 39"):
+                mc33.choose_signs(TIED)
             library.mc33_edge.return_value = EdgeRecord(0, 9)
             with self.assertRaisesRegex(ValueError, "kind 9"):
                 mc33.read_edge(TIED, 0)
             library.mc33_face.return_value = FaceRecord(11)
             with self.assertRaisesRegex(mc33.Refused, "refused 11"):
                 mc33.test_face(TIED, 1)
+
+
+class Signs(unittest.TestCase):
+    def test_choices_are_those_of_the_family(self):
+        random = Random(4)
+        for number, off in product(range(256), (-0.75, 0.0, -0.0)):
+            cube = [2 - random.random() if number >> corner & 1 else off for corner in range(8)]
+            self.assertEqual(mc33.choose_signs(cube), mc33.choose(*mc33.family_of(number), cube))
+
+    def test_without_zeros_no_pick_is_without_a_match(self):
+        random = Random(6)
+        cubes = ([random.choice((-1, 1)) * (2 - random.random()) for _ in range(8)] for _ in range(5000))
+        choices = [mc33.choose_signs(cube) for cube in cubes]
+        self.assertEqual({choice.unmatched for choice in choices}, {0})
+        self.assertEqual({choice.name.split("_")[0] for choice in choices}, {"", *map(str, range(1, 15))})
+
+    def test_cubes_by_hand(self):
+        # The first two are in document 01, with the family that their signs have. No zero counts as above 0.
+        self.assertEqual(mc33.choose_signs([2, -1, 2, -1, -1, -1, -1, -1]).name, "3_2")
+        self.assertEqual(mc33.choose_signs([1, -2, 1, -2, -1, -1, -1, -1]).name, "3_1")
+        self.assertEqual(mc33.choose_signs([-1] * 8), (mc33.EMPTY, 0, 0, 0, 0, 0, 0))
+        self.assertEqual(mc33.choose_signs([0.0, -0.0] * 4), (mc33.EMPTY, 0, 0, 0, 0, 0, 0))
+        self.assertEqual(mc33.choose_signs([2**-149] + [0.0, -0.0] * 3 + [-1]).name, "1")
+
+    def test_refusals(self):
+        for value in math.nan, math.inf, -math.inf:
+            for corner in range(8):
+                self.assertEqual(said(mc33.choose_signs, LEVEL[:corner] + [value] + LEVEL[corner + 1:]), 3)
 
 
 class Faces(unittest.TestCase):
@@ -188,6 +222,9 @@ class Unfit(unittest.TestCase):
                 ("case is 259, .*-128..127", mc33.choose, 259, 0, TIED),
                 ("case is -129", mc33.choose, -129, 0, TIED),
                 ("configuration is 256", mc33.choose, 3, 256, TIED),
+                ("corner_set is 256, .*0..255", mc33.family_of, 256),
+                ("corner_set is -1", mc33.family_of, -1),
+                (r"corners\[0\] is 1e\+39, .*f32", mc33.choose_signs, [1e39] + TIED[1:]),
                 ("face is 261", mc33.test_face, TIED, 261),
                 ("edge is 256", mc33.read_edge, TIED, 256),
                 (r"bits is 4294967296, .*0\.\.4294967295", mc33.root_bits, 2**32),
@@ -201,6 +238,7 @@ class Unfit(unittest.TestCase):
         for words, routine, *arguments in (
                 ("case is 3.0, .*whole", mc33.choose, 3.0, 0, TIED),
                 ("edge is '0'", mc33.read_edge, TIED, "0"),
+                ("corner_set is 5.0, .*whole", mc33.family_of, 5.0),
                 (r"corners\[0\] is '1'", mc33.test_face, "11111111", 5),
                 ("x is None", mc33.root, None)):
             with self.assertRaisesRegex(TypeError, words):
@@ -210,3 +248,5 @@ class Unfit(unittest.TestCase):
         for corners in (TIED[:7], TIED + [1], [], [TIED]):
             with self.assertRaisesRegex(ValueError, f"8 corner values.*{len(corners)}"):
                 mc33.choose(3, 0, corners)
+            with self.assertRaisesRegex(ValueError, f"8 corner values.*{len(corners)}"):
+                mc33.choose_signs(corners)

@@ -1,13 +1,12 @@
-//! The proved chooser from Rust: each routine once, then a list and a refused list. Prints what examples/choose.c
+//! The proved chooser from Rust: each routine once, then lists and refused lists. Prints what examples/choose.c
 //! prints.
 use mc33::{
-    choose, choose_list, read_edge, root, root_bits, test_face, Choice, Cube, ListRefused, Reading,
-    ROW_BYTES,
+    choose, choose_list, choose_list_signs, choose_signs, family_of, read_edge, root, root_bits,
+    test_face, Choice, Cube, Family, ListRefused, Reading, Refusal, ROW_BYTES,
 };
 
-fn print_choice(case: i8, configuration: i8, cube: Cube) {
-    print!("case {case}/{configuration}: ");
-    match choose(case, configuration, cube) {
+fn print_said(said: Result<Choice, Refusal>) {
+    match said {
         Err(refusal) => println!("refused {}", refusal.number()),
         Ok(Choice::Tiled(t)) => {
             let centre = u8::from(t.centre);
@@ -18,6 +17,24 @@ fn print_choice(case: i8, configuration: i8, cube: Cube) {
         }
         Ok(other) => println!("{other:?}"),
     }
+}
+
+fn print_choice(case: i8, configuration: i8, cube: Cube) {
+    print!("case {case}/{configuration}: ");
+    print_said(choose(case, configuration, cube));
+}
+
+fn print_signs(cube: Cube) {
+    print!("by the signs: ");
+    print_said(choose_signs(cube));
+}
+
+fn print_family(set: u8) {
+    let Family {
+        case,
+        configuration,
+    } = family_of(set);
+    println!("set {set}: case {case} configuration {configuration}");
 }
 
 fn print_face(cube: Cube, face: i8) {
@@ -46,10 +63,8 @@ fn print_outcome(outcome: Result<(), ListRefused>) {
     }
 }
 
-/// Three cubes; each answer byte is 7 beforehand. `mc33::rows` would read the rows as choices.
-fn print_list(corners: &[f32], numbers: &[i8]) {
-    let mut answers = [7; 3 * ROW_BYTES];
-    print_outcome(choose_list(corners, numbers, &mut answers));
+/// `mc33::rows` would read the rows as choices.
+fn print_rows(answers: &[u8]) {
     for row in answers.chunks(ROW_BYTES) {
         println!(
             "{}",
@@ -58,12 +73,24 @@ fn print_list(corners: &[f32], numbers: &[i8]) {
     }
 }
 
+/// Three cubes with their numbers, then by their signs; each answer byte is 7 beforehand.
+fn print_lists(corners: &[f32], numbers: &[i8]) {
+    let mut answers = [7; 3 * ROW_BYTES];
+    print_outcome(choose_list(corners, numbers, &mut answers));
+    print_rows(&answers);
+    answers = [7; 3 * ROW_BYTES];
+    print_outcome(choose_list_signs(corners, &mut answers));
+    print_rows(&answers);
+}
+
 fn main() {
     let tied = Cube([1.0, -1.0, 1.0, -1.0, -1.0, -1.0, -1.0, -1.0]);
     let apart = Cube([1.0, -2.0, 1.0, -2.0, -1.0, -1.0, -1.0, -1.0]);
     let level = Cube([3.0, -1.0, -1.0, -1.0, -1.0, -1.0, 3.0, -1.0]);
     let steep = Cube([9.0, -1.0, -1.0, -1.0, -1.0, -1.0, 9.0, -1.0]);
     let flat = Cube([1.0; 8]);
+    let zeros = Cube([1.0, 0.0, 1.0, -0.0, 0.0, -0.0, 0.0, -0.0]);
+    let broken = Cube([f32::INFINITY; 8]);
     let unpaired = Cube([-1.0, -1.0, 1.0, -1.0, -1.0, 1.0, -1.0, -1.0]);
     let mut cubes = [tied.0, level.0, [1.0, 2.0, 1.0, 2.0, 1.0, 4.0, 1.0, 4.0]];
     let numbers = [3, 0, 4, 0, 13, 0];
@@ -74,6 +101,12 @@ fn main() {
     print_choice(4, 0, flat);
     print_choice(4, 0, unpaired);
     print_choice(4, 8, level);
+    print_family(5);
+    print_family(250);
+    print_family(255);
+    print_signs(tied);
+    print_signs(zeros);
+    print_signs(broken);
     print_face(tied, 5);
     print_face(tied, -5);
     print_face(tied, 0);
@@ -85,8 +118,9 @@ fn main() {
     println!("root of 6.25: {}", root(6.25));
     println!("root of ff800000: {:08x}", root_bits(0xff80_0000));
 
-    print_list(cubes.as_flattened(), &numbers);
+    print_lists(cubes.as_flattened(), &numbers);
     cubes[1][7] = f32::INFINITY;
-    print_list(cubes.as_flattened(), &numbers);
+    print_lists(cubes.as_flattened(), &numbers);
     print_outcome(choose_list(&[], &[], &mut []));
+    print_outcome(choose_list_signs(&[], &mut []));
 }

@@ -2,9 +2,9 @@
 use core::error::Error;
 use core::fmt::{Display, Formatter, Result as Written};
 
-/// How many bytes [`choose_list`](crate::choose_list) writes for a cube, its row: code, row, column, centre + 2 ×
-/// unsettled, unmatched, readings. Before version 5 a row was the first four of these, and a list of such rows bears no
-/// mark: whoever stores rows should store the version too.
+/// How many bytes a list ([`choose_list`](crate::choose_list)) has for a cube, its row: code, row, column,
+/// centre + 2 × unsettled, unmatched, readings. Before version 5 a row was the first four of these, and a list of such
+/// rows bears no mark: whoever stores rows should store the version too.
 pub const ROW_BYTES: usize = 6;
 
 /// A tiling of the Marching Cubes 33 tables. Only this crate makes it; later versions may add fields.
@@ -130,9 +130,10 @@ pub fn choice_of(
 ///
 /// # Errors
 ///
-/// [`NotARow::Bytes`] where the code is 39 to 254, where the fourth byte is above 7, unmatched above 3 or readings above
-/// 7, or where code 0 or 255 has other bytes than a list writes with it. Whether a table has such a row and column, and
-/// the centre, and whether the case makes so many readings, is not looked at: so bytes that no list wrote may pass.
+/// [`NotARow::Bytes`] where the code is 39 to 254, where the fourth byte is above 7, unmatched above 3 or readings
+/// above 7, or where code 0 or 255 has other bytes than a list writes with it. Whether a table has such a row and
+/// column, and the centre, and whether the case makes so many readings, is not looked at: so bytes that no list wrote
+/// may pass.
 ///
 /// ```
 /// use mc33::{Choice, NotARow};
@@ -191,7 +192,7 @@ impl Display for NotARow {
 impl Error for NotARow {}
 
 /// The choices in a list's answers, a row each, from the first. What a refused list left is not looked for: ask
-/// [`choose_list`](crate::choose_list).
+/// [`choose_list`](crate::choose_list) or [`choose_list_signs`](crate::choose_list_signs).
 ///
 /// # Errors
 ///

@@ -48,6 +48,15 @@ struct Refusals;
 /// ```
 struct Answers;
 
+/// A family is whole: it is built and matched outside.
+///
+/// ```
+/// use mc33::Family;
+/// let Family { case, configuration } = Family { case: 3, configuration: 0 };
+/// assert_eq!((case, configuration), (3, 0));
+/// ```
+struct Families;
+
 /// Both ways to be no row, and an arm for later ones.
 ///
 /// ```

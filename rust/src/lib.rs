@@ -1,17 +1,17 @@
 //! The proved Marching Cubes 33 chooser, over its static library.
 //!
-//! From a case, a configuration and a cube's eight corner values to the tiling that `handle_cube` of `baby_shark`
-//! picks. Every function takes any numbers and gives an answer or one numbered refusal; none panics or allocates, and
-//! the crate needs no `std`. What the library is proved to do is in the repository's `docs/PROOFS.md`; this crate
-//! only names its numbers.
+//! From a cube's eight corner values, with the case and the configuration that their signs have ([`choose_signs`]) or
+//! that the caller gives ([`choose`]), to the tiling that `handle_cube` of `baby_shark` picks. Every function takes any
+//! numbers and gives an answer or one numbered refusal; none panics or allocates, and the crate needs no `std`. What
+//! the library is proved to do is in the repository's `docs/PROOFS.md`; this crate only names its numbers.
 //!
 //! ```
-//! use mc33::{choose, Choice, Cube};
+//! use mc33::{choose_signs, Choice, Cube};
 //!
 //! // Case 3: the face between corners 0 and 2 joins them, or keeps them apart.
 //! let joined = Cube([2.0, -1.0, 2.0, -1.0, -1.0, -1.0, -1.0, -1.0]);
 //! let apart = Cube([1.0, -2.0, 1.0, -2.0, -1.0, -1.0, -1.0, -1.0]);
-//! let name = |cube| match choose(3, 0, cube) {
+//! let name = |cube| match choose_signs(cube) {
 //!     Ok(Choice::Tiled(tiling)) => tiling.name(),
 //!     other => panic!("{other:?}"),
 //! };
@@ -32,13 +32,13 @@ mod library;
 mod refusal;
 
 pub use choice::{rows, Choice, NotARow, Tiling, ROW_BYTES};
-pub use library::Cube;
+pub use library::{Cube, Family};
 pub use refusal::{ListRefused, Refusal};
 
 use library::{Mc33Choice, Mc33Edge, Mc33Face, Mc33Outcome};
 
 /// The version of the library that this crate was written for: (major, minor).
-pub const VERSION: (u32, u32) = (5, 0);
+pub const VERSION: (u32, u32) = (5, 1);
 
 /// The version of the library that is linked: (major, minor).
 ///
@@ -106,6 +106,45 @@ fn choice_said(said: Mc33Choice) -> Result<Choice, Refusal> {
     } = said;
     choice::choice_of(code, row, column, centre, unsettled, unmatched, readings)
         .ok_or(refusal::NO_NAME)
+}
+
+/// The family of a set of corners, whose bit n is corner n. Any number has one: 0 and 255 have case 0, and each other
+/// set is the only one of its case and configuration.
+///
+/// The set of a cube is that of its corners above 0; a zero of either sign does not belong to it. The table that is
+/// looked into is proved to be what its rule says (`docs/PROOFS.md`).
+///
+/// ```
+/// use mc33::{family_of, Family};
+/// let corners = [2.0f32, -1.0, 2.0, -1.0, 0.0, -0.0, -1.0, -1.0];
+/// let set = (0..8).map(|n| u8::from(corners[n] > 0.0) << n).sum();
+/// assert_eq!(family_of(set), Family { case: 3, configuration: 0 });
+/// assert_eq!([0, 255].map(family_of), [Family { case: 0, configuration: -1 }; 2]);
+/// ```
+pub fn family_of(set: u8) -> Family {
+    library::family_of(set)
+}
+
+/// Chooses the tiling for a cube by its signs: as [`choose`] for the family of the set of its corners above 0. A zero
+/// of either sign does not belong to the set. Where no corner is a zero [`Tiling::unmatched`] is 0.
+///
+/// # Errors
+///
+/// [`Refusal::NotFinite`] alone.
+///
+/// ```
+/// use mc33::{choose, choose_signs, Choice, Cube, Refusal};
+/// let mut cube = Cube([3.0, -1.0, -1.0, -1.0, -1.0, -1.0, 3.0, -1.0]);
+/// let Ok(Choice::Tiled(tiling)) = choose_signs(cube) else { panic!() };
+/// assert_eq!((tiling.name(), tiling.unsettled), ("4_2", 3));
+/// assert_eq!(choose_signs(cube), choose(4, 0, cube));
+/// assert_eq!(choose_signs(Cube([0.0, -0.0, 0.0, -0.0, 0.0, -0.0, 0.0, -0.0])), Ok(Choice::Empty));
+/// cube.0[7] = f32::NAN;
+/// assert_eq!(choose_signs(cube), Err(Refusal::NotFinite));
+/// ```
+#[inline]
+pub fn choose_signs(cube: Cube) -> Result<Choice, Refusal> {
+    choice_said(library::choose_signs(cube))
 }
 
 /// How many configurations a case has, from 0 on: 0 for case 0, which has -1 alone, and for a number that is no case.
@@ -253,6 +292,34 @@ pub fn root_bits(bits: u32) -> u32 {
 /// ```
 pub fn choose_list(corners: &[f32], numbers: &[i8], answers: &mut [u8]) -> Result<(), ListRefused> {
     list_said(library::list(corners, numbers, answers))
+}
+
+/// Chooses for a list of cubes by their signs, as [`choose_signs`] for each: 8 corner values and [`ROW_BYTES`] answer
+/// bytes a cube, and no numbers.
+///
+/// [`rows`] reads the answers. Bytes past the last cube's stay as they are, and a refused list has every answer byte
+/// unchanged.
+///
+/// # Errors
+///
+/// [`Refusal::UnevenLists`] where the corners are not 8 values a cube, [`Refusal::NoRoom`], then [`Refusal::NotFinite`]
+/// at the first cube that has it.
+///
+/// ```
+/// use mc33::{choose_list_signs, Refusal};
+/// let mut corners = [1.0, -1.0, 1.0, -1.0, -1.0, -1.0, -1.0, -1.0, 3.0, -1.0, -1.0, -1.0, -1.0, -1.0, 3.0, -1.0];
+/// let mut answers = [7; 13];
+/// assert_eq!(choose_list_signs(&corners, &mut answers), Ok(()));
+/// assert_eq!(answers, [4, 0, 0, 0, 0, 1, 6, 0, 0, 6, 0, 3, 7]);
+///
+/// corners[15] = f32::INFINITY;
+/// answers = [7; 13];
+/// let error = choose_list_signs(&corners, &mut answers).unwrap_err();
+/// assert_eq!((error.refusal, error.place), (Refusal::NotFinite, 1));
+/// assert_eq!(answers, [7; 13]);
+/// ```
+pub fn choose_list_signs(corners: &[f32], answers: &mut [u8]) -> Result<(), ListRefused> {
+    list_said(library::list_signs(corners, answers))
 }
 
 fn list_said(said: Mc33Outcome) -> Result<(), ListRefused> {

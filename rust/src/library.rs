@@ -5,6 +5,16 @@
 #[repr(C)]
 pub struct Cube(pub [f32; 8]);
 
+/// A case (0 to 14) with one of its configurations; case 0 has -1 alone. [`family_of`](crate::family_of) finds it.
+#[derive(Clone, Copy, Debug, PartialEq, Eq, Hash)]
+#[repr(C)]
+pub struct Family {
+    /// 0 to 14.
+    pub case: i8,
+    /// Counted from 0; -1 in case 0.
+    pub configuration: i8,
+}
+
 #[derive(Clone, Copy, Debug, Default, PartialEq)]
 #[repr(C)]
 pub struct Mc33Choice {
@@ -43,6 +53,8 @@ pub struct Mc33Outcome {
 
 extern "C" {
     fn mc33_choose(case: i8, configuration: i8, cube: Cube) -> Mc33Choice;
+    fn mc33_family_of(set: u8) -> Family;
+    fn mc33_choose_signs(cube: Cube) -> Mc33Choice;
     fn mc33_face(cube: Cube, face: i8) -> Mc33Face;
     fn mc33_edge(cube: Cube, edge: i8) -> Mc33Edge;
     fn mc33_root(x: f32) -> f32;
@@ -55,14 +67,29 @@ extern "C" {
         answers: *mut u8,
         answers_length: usize,
     ) -> Mc33Outcome;
+    fn mc33_list_signs(
+        corners: *const f32,
+        corners_length: usize,
+        answers: *mut u8,
+        answers_length: usize,
+    ) -> Mc33Outcome;
     fn mc33_version() -> u32;
 }
 
-// SAFETY, for all but the list: the functions take any numbers and touch no memory of the caller's.
+// SAFETY, for all but the lists: the functions take any numbers and touch no memory of the caller's.
 
 #[inline]
 pub fn choose(case: i8, configuration: i8, cube: Cube) -> Mc33Choice {
     unsafe { mc33_choose(case, configuration, cube) }
+}
+
+pub fn family_of(set: u8) -> Family {
+    unsafe { mc33_family_of(set) }
+}
+
+#[inline]
+pub fn choose_signs(cube: Cube) -> Mc33Choice {
+    unsafe { mc33_choose_signs(cube) }
 }
 
 pub fn face(cube: Cube, face: i8) -> Mc33Face {
@@ -93,6 +120,18 @@ pub fn list(corners: &[f32], numbers: &[i8], answers: &mut [u8]) -> Mc33Outcome 
             corners.len(),
             numbers.as_ptr(),
             numbers.len(),
+            answers.as_mut_ptr(),
+            answers.len(),
+        )
+    }
+}
+
+pub fn list_signs(corners: &[f32], answers: &mut [u8]) -> Mc33Outcome {
+    // SAFETY: as for `list`, of two slices.
+    unsafe {
+        mc33_list_signs(
+            corners.as_ptr(),
+            corners.len(),
             answers.as_mut_ptr(),
             answers.len(),
         )

@@ -16,7 +16,7 @@ pub enum Refusal {
     NoFace,
     /// 5: the edge number is not 0..11.
     NoEdge,
-    /// 6: a list without 8 corner values and 2 numbers a cube.
+    /// 6: a list without 8 corner values (and 2 numbers) a cube.
     UnevenLists,
     /// 7: a list with fewer than [`ROW_BYTES`](crate::ROW_BYTES) answer bytes a cube.
     NoRoom,
@@ -50,7 +50,7 @@ impl Refusal {
             NotFinite => (3, "a corner is a NaN or infinite"),
             NoFace => (4, "the face number is not -6..-1 or 1..6"),
             NoEdge => (5, "the edge number is not 0..11"),
-            UnevenLists => (6, "the list has not 8 corner values and 2 numbers a cube"),
+            UnevenLists => (6, "the list has not 8 corner values (and 2 numbers) a cube"),
             NoRoom => (7, "the list has fewer than 6 answer bytes a cube"),
             Malformed => (8, "the line is malformed"),
             Unknown { number } => (number, "this version of the crate has no name for it"),
@@ -87,8 +87,8 @@ impl Display for Refusal {
 
 impl Error for Refusal {}
 
-/// Why a list was refused, and where. Only [`choose_list`](crate::choose_list) makes it; later versions may add
-/// fields.
+/// Why a list was refused, and where. Only [`choose_list`](crate::choose_list) and
+/// [`choose_list_signs`](crate::choose_list_signs) make it; later versions may add fields.
 ///
 /// ```
 /// let error = mc33::choose_list(&[1.0; 8], &[15, 0], &mut [0; mc33::ROW_BYTES]).unwrap_err();

@@ -118,6 +118,72 @@ fn a_choice_without_a_name_is_refused() {
     }
 }
 
+/// 0 and 255 have case 0; each other set is the only one of its case and configuration.
+#[test]
+fn each_set_has_a_family_of_its_own() {
+    let mut seen = std::collections::HashSet::new();
+    for set in 1..255 {
+        let family = family_of(set);
+        assert!((0..configurations(family.case)).contains(&family.configuration));
+        assert!(seen.insert(family), "{family:?}");
+    }
+    let none = Family {
+        case: 0,
+        configuration: -1,
+    };
+    assert_eq!([0, 255].map(family_of), [none; 2]);
+}
+
+/// A cube with this set, whose corners off it have the same value.
+fn cube_of(set: u8, off: f32) -> Cube {
+    Cube(core::array::from_fn(|corner| {
+        if set >> corner & 1 == 1 {
+            1.0 + corner as f32
+        } else {
+            off
+        }
+    }))
+}
+
+#[test]
+fn by_the_signs_it_is_the_choice_for_the_family_and_no_zero_belongs() {
+    for (set, off) in (0..=255).flat_map(|set| [-2.0, 0.0, -0.0].map(|off| (set, off))) {
+        let (family, cube) = (family_of(set), cube_of(set, off));
+        let choice = choose(family.case, family.configuration, cube);
+        assert!(choice.is_ok());
+        assert_eq!(choose_signs(cube), choice);
+        let mut row = [7; ROW_BYTES];
+        assert_eq!(choose_list_signs(&cube.0, &mut row), Ok(()));
+        assert_eq!(Choice::try_from(row).ok(), choice.ok());
+    }
+}
+
+#[test]
+fn by_the_signs_only_what_is_not_finite_is_refused() {
+    let values = [f32::NAN, f32::INFINITY, f32::NEG_INFINITY];
+    for (corner, value) in (0..8).flat_map(|corner| values.map(|value| (corner, value))) {
+        let mut cube = Cube([1.0; 8]);
+        cube.0[corner] = value;
+        assert_eq!(choose_signs(cube), Err(Refusal::NotFinite));
+    }
+}
+
+#[test]
+fn a_list_by_the_signs_is_refused_whole() {
+    let mut corners = [1.0; 24];
+    corners[16] = f32::NAN;
+    for (length, room, refusal, place) in [
+        (23, 0, Refusal::UnevenLists, 0),
+        (24, 3 * ROW_BYTES - 1, Refusal::NoRoom, 0),
+        (24, 3 * ROW_BYTES, Refusal::NotFinite, 2),
+    ] {
+        let mut answers = [7; 3 * ROW_BYTES];
+        let refused = choose_list_signs(&corners[..length], &mut answers[..room]);
+        assert_eq!(refused, Err(ListRefused { refusal, place }));
+        assert_eq!(answers, [7; 3 * ROW_BYTES]);
+    }
+}
+
 #[test]
 fn a_face_answer_without_a_name_is_refused() {
     let said = |answer| face_said(Mc33Face { refusal: 0, answer });

@@ -17,10 +17,10 @@ use Rattle.families.specs.Plans.{plan3, plan4, part7, plan7, plans, plan_of}
 use Rattle.choice.specs.Choice.{refusal_of, choice_of}
 use Rattle.reader.specs.Reader.{cube_at}
 use Rattle.rows.specs.Rows.{refusal_at, choice_at, bytes_of}
-use Rattle.list.specs.Lists.{lengths_agree, first_from, result_of, rows_of, answers_of}
+use Rattle.list.specs.Lists.{lengths_agree, first_from, result_by, result_of, rows_of, answers_of}
 use Rattle.list.specs.Tries.{tries, ListTries}
 use Rattle.list.proofs.Empties.{any_number_lem}
 
 pub tries_hold : ListTries
-unfolding tries lengths_agree refusal_at choice_at first_from result_of bytes_of rows_of answers_of cube_at refusal_of choice_of run settled ask_in_turn plan_of plans plan3 plan4 plan7 part7 two_faces plan12 plan13 part13 tile13 last_from parts13 TEST_3 TEST_4 TEST_7 TEST_12 TEST_13 SUB_CONFIG_13 configurations has_centre face_of face_by rule face_corner face_corners inside_of inside_by joined look_at seen_as pick_by pick_with last_match any_match diagonals edge_by read_by cross_by move_of moves corner_of value_at corners all_finite of_bits neg add sub mul div lt eq le is_nan of_int
+unfolding tries lengths_agree refusal_at choice_at first_from result_by result_of bytes_of rows_of answers_of cube_at refusal_of choice_of run settled ask_in_turn plan_of plans plan3 plan4 plan7 part7 two_faces plan12 plan13 part13 tile13 last_from parts13 TEST_3 TEST_4 TEST_7 TEST_12 TEST_13 SUB_CONFIG_13 configurations has_centre face_of face_by rule face_corner face_corners inside_of inside_by joined look_at seen_as pick_by pick_with last_match any_match diagonals edge_by read_by cross_by move_of moves corner_of value_at corners all_finite of_bits neg add sub mul div lt eq le is_nan of_int
 tries_hold = record { outcomes = refl; answers = refl; any_number = any_number_lem }

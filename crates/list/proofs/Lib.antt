@@ -1,5 +1,5 @@
 mod Controls
-mod Empties
+pub mod Empties
 mod Firsts
 mod Outcomes
 mod Rows

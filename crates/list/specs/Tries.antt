@@ -18,15 +18,15 @@ abbrev try : List ℕ → List ℤ → List ℕ → Result → List ℕ → Try
 try xs ns ys r zs = record { corners = xs; numbers = ns; answers = ys; says = r; leaves = zs }
 
 -- c0=c2=2, others -1: 3_2
-abbrev first : List ℕ
+abbrev pub first : List ℕ
 first = 0x40000000 ∷ 0xbf800000 ∷ 0x40000000 ∷ 0xbf800000 ∷ 0xbf800000 ∷ 0xbf800000 ∷ 0xbf800000 ∷ 0xbf800000 ∷ []
 
 -- c0=c2=1, c1=c3=-2, others -1: 3_1
-abbrev second : List ℕ
+abbrev pub second : List ℕ
 second = 0x3f800000 ∷ 0xc0000000 ∷ 0x3f800000 ∷ 0xc0000000 ∷ 0xbf800000 ∷ 0xbf800000 ∷ 0xbf800000 ∷ 0xbf800000 ∷ []
 
 -- c0=c6=3, others -1: 4_2, unsettled 3
-abbrev third : List ℕ
+abbrev pub third : List ℕ
 third = 0x40400000 ∷ 0xbf800000 ∷ 0xbf800000 ∷ 0xbf800000 ∷ 0xbf800000 ∷ 0xbf800000 ∷ 0x40400000 ∷ 0xbf800000 ∷ []
 
 -- document 01, 'Program', 13/0: no tiling, sub-configuration 5
@@ -46,11 +46,11 @@ abbrev unmatched : List ℕ
 unmatched = 0x3f800000 ∷ 0x3f800000 ∷ 0x3f800000 ∷ 0x3f800000 ∷ 0x3f800000 ∷ 0x3f800000 ∷ 0x3f800000 ∷ 0x3f800000 ∷ []
 
 -- c7 is NaN
-abbrev spoilt : List ℕ
+abbrev pub spoilt : List ℕ
 spoilt = 0xbf800000 ∷ 0xbf800000 ∷ 0xbf800000 ∷ 0xbf800000 ∷ 0xbf800000 ∷ 0xbf800000 ∷ 0xbf800000 ∷ 0x7fc00000 ∷ []
 
 -- room for a row
-abbrev room : List ℕ
+abbrev pub room : List ℕ
 room = 9 ∷ 9 ∷ 9 ∷ 9 ∷ 9 ∷ 9 ∷ []
 
 abbrev case3 : List ℤ

@@ -12,8 +12,12 @@ ghost use Rattle.cube.specs.Bits.{bit_of};
 ghost use Rattle.cube.specs.Refusals.{refusal_number};
 ghost use Rattle.tilings.specs.Answers.{reached};
 ghost use Rattle.choice.specs.Choice.{refused, readings_in, answer_of, said};
+ghost use Rattle.signs.specs.Rule.{family_of};
+ghost use Rattle.signs.specs.Table.{family_at};
+ghost use Rattle.signs.specs.Front.{front_of};
 ghost use Rattle.rows.specs.Results.{outcome_result};
 ghost use Rattle.list.specs.Lists.{result_of, answers_of};
+ghost use Rattle.list_signs.specs.Lists.{result_of as result_by_signs, answers_of as answers_by_signs};
 ghost use Rattle.mc33_c.specs.Version.{version};
 ghost use Rattle.mc33_c.specs.Answers.{answered, reached_numbers, choice_numbers, face_numbers, read_as, edge_numbers, outcome_numbers};
 
@@ -21,6 +25,7 @@ use cube::{Cube, EdgeNo, Face, Refusal};
 use edge::Reading;
 use notes::Notes;
 use rows::ListRefused;
+use signs::Family;
 use tilings::{Choice, Counted};
 
 // `refusal` is 0 where there is an answer. Empty is all 0; no tiling is code 255, a number of the C interface, with the
@@ -70,7 +75,7 @@ pub struct Mc33Outcome {
 pub fn mc33_version() -> u32
     ensures { result ≡ version }
 {
-    5000
+    5001
 }
 
 // The f32 square root of x: the nearest value. A NaN has no pattern of its own here.
@@ -155,6 +160,22 @@ pub fn mc33_choose(case: i8, configuration: i8, cube: Cube) -> Mc33Choice
     ensures { result ≡ choice_numbers (answer_of case configuration cube) }
 {
     choice_numbers(choice::handle_cube(case, configuration, cube))
+}
+
+// The family of a set of corners, whose bit n is corner n: every number is a set.
+pub fn mc33_family_of(set: u8) -> Family
+    ensures table { result ≡ family_at set }
+    ensures rule { result ≡ family_of set }
+{
+    signs::family_of(set)
+}
+
+// The choice for a cube by the signs of its corners; refusal 3 alone.
+#[tactic(auto, using(signs::proofs::Front::few_in_front))]
+pub fn mc33_choose_signs(cube: Cube) -> Mc33Choice
+    ensures { result ≡ choice_numbers (front_of cube) }
+{
+    choice_numbers(signs::choose_signs(cube))
 }
 
 impl From<Result<bool, Refusal>> for Mc33Face {
@@ -245,4 +266,13 @@ pub fn mc33_list(corners: &[f32], numbers: &[i8], answers: &mut [u8]) -> Mc33Out
     ensures answers { answers.new ≡ answers_of corners.now numbers.now answers.old }
 {
     Mc33Outcome::from(list::choose_list(corners, numbers, answers))
+}
+
+// The choices for a list of cubes by the signs of their corners: 8 corner values and 6 answer bytes a cube. A refused
+// list has every answer byte unchanged.
+pub fn mc33_list_signs(corners: &[f32], answers: &mut [u8]) -> Mc33Outcome
+    ensures outcome { result ≡ outcome_numbers (result_by_signs corners.now (length answers.old)) }
+    ensures answers { answers.new ≡ answers_by_signs corners.now answers.old }
+{
+    Mc33Outcome::from(list_signs::choose_list_signs(corners, answers))
 }

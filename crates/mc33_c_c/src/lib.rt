@@ -10,12 +10,17 @@ ghost use Rattle.root.specs.Special.{SpecialRoots, SpecialBits};
 ghost use Rattle.face.specs.Face.{test_face_of};
 ghost use Rattle.edge.specs.Edge.{edge_reading_of};
 ghost use Rattle.choice.specs.Choice.{answer_of};
+ghost use Rattle.signs.specs.Rule.{family_of};
+ghost use Rattle.signs.specs.Table.{family_at};
+ghost use Rattle.signs.specs.Front.{front_of};
 ghost use Rattle.list.specs.Lists.{result_of, answers_of};
+ghost use Rattle.list_signs.specs.Lists.{result_of as result_by_signs, answers_of as answers_by_signs};
 ghost use Rattle.mc33_c.specs.Version.{version};
 ghost use Rattle.mc33_c.specs.Answers.{choice_numbers, face_numbers, edge_numbers, outcome_numbers};
 
 use cube::Cube;
 use mc33_c::{Mc33Choice, Mc33Edge, Mc33Face, Mc33Outcome};
+use signs::Family;
 
 #[unsafe(no_mangle)]
 pub extern "C" fn mc33_version() -> u32
@@ -49,6 +54,21 @@ pub extern "C" fn mc33_choose(case: i8, configuration: i8, cube: Cube) -> Mc33Ch
 }
 
 #[unsafe(no_mangle)]
+pub extern "C" fn mc33_family_of(set: u8) -> Family
+    ensures table { result ≡ family_at set }
+    ensures rule { result ≡ family_of set }
+{
+    mc33_c::mc33_family_of(set)
+}
+
+#[unsafe(no_mangle)]
+pub extern "C" fn mc33_choose_signs(cube: Cube) -> Mc33Choice
+    ensures { result ≡ choice_numbers (front_of cube) }
+{
+    mc33_c::mc33_choose_signs(cube)
+}
+
+#[unsafe(no_mangle)]
 pub extern "C" fn mc33_face(cube: Cube, face: i8) -> Mc33Face
     ensures { result ≡ face_numbers (test_face_of cube face) }
 {
@@ -68,4 +88,12 @@ pub extern "C" fn mc33_list(corners: &[f32], numbers: &[i8], answers: &mut [u8])
     ensures answers { answers.new ≡ answers_of corners.now numbers.now answers.old }
 {
     mc33_c::mc33_list(corners, numbers, answers)
+}
+
+#[unsafe(no_mangle)]
+pub extern "C" fn mc33_list_signs(corners: &[f32], answers: &mut [u8]) -> Mc33Outcome
+    ensures outcome { result ≡ outcome_numbers (result_by_signs corners.now (length answers.old)) }
+    ensures answers { answers.new ≡ answers_by_signs corners.now answers.old }
+{
+    mc33_c::mc33_list_signs(corners, answers)
 }

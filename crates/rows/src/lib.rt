@@ -2,7 +2,8 @@
 // Inner routines, for what makes rows and is proved to meet what they require.
 #![tactic(auto)]
 
-ghost use Rattle.std.specs.Prelude.{◌≡◌, ◌+◌, ◌*◌, ◌/◌, ◌≤◌, ◌<◌, length};
+ghost use Rattle.std.specs.Prelude.{◌≡◌, ◌+◌, ◌*◌, ◌/◌, ◌≤◌, ◌<◌, ℕ, min, length};
+ghost use Rattle.tilings.specs.Plan.{Reached};
 ghost use Rattle.tilings.specs.Answers.{reached};
 ghost use Rattle.put.specs.Placed.{placed};
 ghost use Rattle.reader.specs.Reader.{cube_at};
@@ -24,14 +25,6 @@ pub struct ListRefused {
     pub place: usize,
 }
 
-// The cubes of a list: eight corner values a cube, and two numbers, its case and its configuration, in two slices as C lends
-// them. That cube i is there is asked by each method: a fact in the type, on both lengths, would ask more of callers.
-#[derive(Clone, Copy)]
-pub struct Cubes<'a> {
-    pub corners: &'a [f32],
-    pub numbers: &'a [i8],
-}
-
 // A cube's answer bytes. `rest` is the centre and the unsettled number.
 #[derive(Clone, Copy)]
 pub struct Row {
@@ -43,36 +36,65 @@ pub struct Row {
     pub readings: u8,
 }
 
-impl Cubes<'_> {
-    // Cube i of the lent corners. The list has it, so the reader gives one.
-    pub fn cube_at(self, i: usize) -> Cube
-        requires { i < length self.corners.now / 8 }
-        ensures { result ≡ cube_at self.entry.corners.now i }
-    {
-        reader::read_at(self.corners, i).unwrap()
-    }
+// A list of cubes, by why each is refused and by its choice. That cube i is there is asked by each method: a fact in
+// the type, on all lengths, would ask more of callers.
+pub trait CubeList: Copy {
+    // how many cubes there are
+    ghost count: { Self → ℕ };
+
+    // the number of cube i's refusal, 0 where there is none
+    ghost refusal: { Self → ℕ → ℕ };
+
+    // the choice for cube i
+    ghost choice: { Self → ℕ → Reached };
 
     // Why cube i is refused, if it is.
-    pub fn refusal_at(self, i: usize) -> Option<Refusal>
-        requires { (i < length self.corners.now / 8) × (2 * i + 2 ≤ length self.numbers.now) }
-        ensures { number_or_0 result ≡ refusal_at self.entry.corners.now self.entry.numbers.now i }
-    {
+    fn refusal_at(self, i: usize) -> Option<Refusal>
+        requires { i < count self }
+        ensures { number_or_0 result ≡ refusal self i };
+
+    // The row of cube i, which is not refused.
+    fn row_at(self, i: usize) -> Row
+        requires place { i < count self }
+        requires made { refusal self i ≡ 0 }
+        ensures { bytes_in result ≡ bytes_of (choice self i) };
+}
+
+// The cubes of a list with their numbers: eight corner values a cube, and two numbers, its case and its configuration,
+// in two slices as C lends them.
+#[derive(Clone, Copy)]
+pub struct Cubes<'a> {
+    pub corners: &'a [f32],
+    pub numbers: &'a [i8],
+}
+
+impl CubeList for Cubes<'_> {
+    ghost count = { λ q. min (length q.corners.now / 8) (length q.numbers.now / 2) };
+
+    ghost refusal = { λ q. refusal_at q.corners.now q.numbers.now };
+
+    ghost choice = { λ q. choice_at q.corners.now q.numbers.now };
+
+    fn refusal_at(self, i: usize) -> Option<Refusal> {
         choice::refusal(
             self.numbers[2 * i],
             self.numbers[2 * i + 1],
-            self.cube_at(i),
+            cube_at(self.corners, i),
         )
     }
 
-    // The row of cube i, which is not refused.
-    pub fn row_at(self, i: usize) -> Row
-        requires place { (i < length self.corners.now / 8) × (2 * i + 2 ≤ length self.numbers.now) }
-        requires made { refusal_at self.corners.now self.numbers.now i ≡ 0 }
-        ensures { bytes_in result ≡ bytes_of (choice_at self.entry.corners.now self.entry.numbers.now i) }
-    {
-        let cube = self.cube_at(i);
+    fn row_at(self, i: usize) -> Row {
+        let cube = cube_at(self.corners, i);
         row_of(choice::choose_tested(self.numbers[2 * i], self.numbers[2 * i + 1], cube))
     }
+}
+
+// Cube i of the lent corners. The list has it, so the reader gives one.
+pub fn cube_at(corners: &[f32], i: usize) -> Cube
+    requires { i < length corners.now / 8 }
+    ensures { result ≡ cube_at corners.now i }
+{
+    reader::read_at(corners, i).unwrap()
 }
 
 fn filled(code: u8, row: u8, column: u8, rest: u8, notes: Notes) -> Row

@@ -1,5 +1,6 @@
 pub mod Asked
 mod Controls
+pub mod Front
 pub mod Hangs
 pub mod Known
 pub mod Ruled

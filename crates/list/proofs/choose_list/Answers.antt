@@ -1,41 +1,16 @@
--- `list::choose_list` meets its contract: its tests, then the first pass, then the second. Assumes nothing.
-use native.Mathlib.Omega.{arith}
-use Rattle.list.proofs.Outcomes.{not_agreed, no_room, all_done, one_refused}
+-- `list::choose_list` comes to what `choose_by` does. Assumes nothing.
+use mathlib.Core.Path.{ap, ◌∙◌}
+use Rattle.rows.specs.Rows.{choice_at, Result}
+use Rattle.list.specs.Lists.{cubes, lengths_agree, rows_of, answers_by, result_of, answers_of}
 use Rattle.list.proofs.choose_list.Goals as goal
 
-pub returns-then-not-agree-clause-outcome : goal.returns-then-not-agree-clause-outcome
-returns-then-not-agree-clause-outcome c = (not_agreed _ _ _ c.if-not-agree.true).0
-
-pub returns-then-not-agree-clause-answers : goal.returns-then-not-agree-clause-answers
-returns-then-not-agree-clause-answers c = (not_agreed _ _ _ c.if-not-agree.true).1
-
-pub returns-then-answers-n-clause-outcome : goal.returns-then-answers-n-clause-outcome
-returns-then-answers-n-clause-outcome c = let s = c.args in (no_room s.corners.now s.numbers.now s.answers.now c.if-not-agree.false (omega arith)).0
-
-pub returns-then-answers-n-clause-answers : goal.returns-then-answers-n-clause-answers
-returns-then-answers-n-clause-answers c = let s = c.args in (no_room s.corners.now s.numbers.now s.answers.now c.if-not-agree.false (omega arith)).1
-
-pub returns-in_err-first_refused-clause-outcome : goal.returns-in_err-first_refused-clause-outcome
-returns-in_err-first_refused-clause-outcome c =
-    let s = c.args in
-    (one_refused s.corners.now s.numbers.now s.answers.now c.if-not-agree.false (omega arith) _ c.in_err-first_refused.ensures _ c.from_residual.ensures.1).0
-
-pub returns-in_err-first_refused-clause-answers : goal.returns-in_err-first_refused-clause-answers
-returns-in_err-first_refused-clause-answers c =
-    let s = c.args in
-    (one_refused s.corners.now s.numbers.now s.answers.now c.if-not-agree.false (omega arith) _ c.in_err-first_refused.ensures _ c.from_residual.ensures.1).1
-
 pub returns-clause-outcome : goal.returns-clause-outcome
-returns-clause-outcome c =
-    let s = c.args in
-    (all_done s.corners.now s.numbers.now s.answers.now c.if-not-agree.false (omega arith) c.in_ok-first_refused.ensures _ c.put_rows.ensures).0
+unfolding lengths_agree result_of
+returns-clause-outcome c = c.choose_by.ensures.outcome
 
 pub returns-clause-answers : goal.returns-clause-answers
+unfolding lengths_agree result_of answers_of
 returns-clause-answers c =
     let s = c.args in
-    (all_done s.corners.now s.numbers.now s.answers.now c.if-not-agree.false (omega arith) c.in_ok-first_refused.ensures _ c.put_rows.ensures).1
-
-pub returns-clause-places : goal.returns-clause-places
-returns-clause-places c =
-    let s = c.args in
-    (all_done s.corners.now s.numbers.now s.answers.now c.if-not-agree.false (omega arith) c.in_ok-first_refused.ensures _ c.put_rows.ensures).2
+    let rows = rows_of (choice_at s.corners.now s.numbers.now) (cubes s.corners.now) in
+    c.choose_by.ensures.answers ∙ ap (λ (r : Result). answers_by r rows s.answers.now) c.choose_by.ensures.outcome

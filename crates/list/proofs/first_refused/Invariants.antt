@@ -5,4 +5,4 @@ use Rattle.list.specs.Lists.{first_from}
 use Rattle.list.proofs.first_refused.Given as goal
 
 abbrev pub invariant-loop-place : goal.invariant-loop-place
-invariant-loop-place l = first_from l.cubes.corners.now l.cubes.numbers.now (l.n - l.place) l.place ≡ first_from l.cubes.corners.now l.cubes.numbers.now l.n 0
+invariant-loop-place g l = first_from (g.C.CubeList.refusal l.cubes) (l.n - l.place) l.place ≡ first_from (g.C.CubeList.refusal l.cubes) l.n 0

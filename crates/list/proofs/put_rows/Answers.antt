@@ -9,16 +9,16 @@ use Rattle.list.proofs.put_rows.Goals as goal
 
 pub loop-k-init : goal.loop-k-init
 unfolding rows_of
-loop-k-init c = (from_first _ _ _ ∙ c.requires.made, sym (placed_nothing _ 0))
+loop-k-init g c = (from_first _ _ ∙ c.requires.made, sym (placed_nothing _ 0))
 
 pub row_at-requires-clause-made : goal.row_at-requires-clause-made
-row_at-requires-clause-made c =
+row_at-requires-clause-made g c =
     let l = c.loop-k in
-    (made_one c.args.cubes.corners.now c.args.cubes.numbers.now c.args.n l.k (omega arith) l.invariant.0).0
+    (made_one (g.C.CubeList.refusal c.args.cubes) c.args.n l.k (omega arith) l.invariant.0).0
 
 pub loop-k-preserved : goal.loop-k-preserved
-loop-k-preserved c =
+loop-k-preserved g c =
     let l = c.loop-k in (
-      (made_one c.args.cubes.corners.now c.args.cubes.numbers.now c.args.n l.k (omega arith) l.invariant.0).1,
-      (rows_again _ _ _ _ _ _ _ (omega arith) (omega arith) l.invariant.1 c.row_at.ensures c.put_row.ensures).1,
+      (made_one (g.C.CubeList.refusal c.args.cubes) c.args.n l.k (omega arith) l.invariant.0).1,
+      (rows_again _ _ _ _ _ _ (omega arith) (omega arith) l.invariant.1 c.row_at.ensures c.put_row.ensures).1,
     )

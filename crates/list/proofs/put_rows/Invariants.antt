@@ -7,5 +7,5 @@ use Rattle.list.specs.Lists.{first_from, rows_of}
 use Rattle.list.proofs.put_rows.Given as goal
 
 abbrev pub invariant-loop-k : goal.invariant-loop-k
-invariant-loop-k l =
-    (first_from l.cubes.corners.now l.cubes.numbers.now (l.n - l.k) l.k ≡ done) × (l.answers ≡ placed l.initial.answers 0 (rows_of l.cubes.corners.now l.cubes.numbers.now l.k))
+invariant-loop-k g l =
+    (first_from (g.C.CubeList.refusal l.cubes) (l.n - l.k) l.k ≡ done) × (l.answers ≡ placed l.initial.answers 0 (rows_of (g.C.CubeList.choice l.cubes) l.k))

@@ -3,7 +3,7 @@ use mathlib.Core.Path.{ap, ◌∙◌}
 use Rattle.rows.specs.Rows.{bytes_of}
 use borrow.Author.Rules.{rules}
 use Rattle.rows.proofs.Places.{refusal_read, choice_read}
-use Rattle.rows.proofs.Cubes.row_at.Goals as goal
+use Rattle.rows.proofs.CubesCubeList.row_at.Goals as goal
 
 pub choose_tested-requires : goal.choose_tested-requires
 choose_tested-requires c = refusal_read _ _ _ _ (search rules) (search rules) c.cube_at-cube.ensures ∙ c.requires.made

@@ -2,7 +2,7 @@
 use mathlib.Core.Path.{◌∙◌}
 use borrow.Author.Rules.{rules}
 use Rattle.rows.proofs.Places.{refusal_read}
-use Rattle.rows.proofs.Cubes.refusal_at.Goals as goal
+use Rattle.rows.proofs.CubesCubeList.refusal_at.Goals as goal
 
 pub returns : goal.returns
 returns c = c.refusal.ensures ∙ refusal_read _ _ _ _ (search rules) (search rules) c.cube_at.ensures

@@ -1,0 +1,4 @@
+mod Controls
+mod Empties
+mod Numbers
+mod Tabled
