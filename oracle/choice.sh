@@ -3,6 +3,8 @@
 # else ../shared/docs/src), builds the driver round it and runs that with the other words:
 #
 #   oracle/choice.sh SOURCE compare 200000000 1
+#   oracle/choice.sh SOURCE families
+#   oracle/choice.sh SOURCE sets > crates/set_families/stdout
 #   oracle/choice.sh SOURCE speed
 #   oracle/choice.sh SOURCE once 'case 4'
 #   oracle/choice.sh SOURCE sample 1 > crates/mc33/stdin
@@ -10,11 +12,14 @@
 #   oracle/choice.sh SOURCE input 1000000 1 > INPUT
 #   oracle/choice.sh SOURCE text < crates/mc33/stdin > crates/mc33/stdout
 #   oracle/choice.sh SOURCE choices < crates/mc33/stdin
+#   oracle/choice.sh SOURCE signs < crates/mc33/stdin
 set -euo pipefail
 here="$PWD"
 cd "$(dirname "$0")/.."
 case "${1-}" in
-    compare | speed | once | sample | altered | input | text | choices | "") source=../shared/docs/src ;;
+    "" | compare | families | sets | speed | once | sample | altered | input | text | choices | signs)
+        source=../shared/docs/src
+        ;;
     /*) source=$1; shift ;;
     *) source=$here/$1; shift ;;
 esac

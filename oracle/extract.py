@@ -4,12 +4,13 @@
     extract.py SOURCE OUT.rs           writes OUT.rs, then checks it
     extract.py --check SOURCE OUT.rs   checks it alone
 
-SOURCE has src/voxel/meshing/. OUT.rs is a part of choice/rust.rs. It holds each function four times: as
-it stands, for Bare, and for Noted, Counted and Altered with lines put in between that note what is met on the
-way; such a line ends in MARK. One expression is replaced, LOOKUP in handle_cube by GIVEN. The tilings, add_faces
-and compute_c_vertex are items of choice/rust.rs under the same names, so their calls stand as they are; so are,
-for Altered, the tables items of choice/altered.rs. The source's own CASES stands in a module by itself; suited
-signs are drawn from it.
+SOURCE has src/voxel/. OUT.rs is a part of choice/rust.rs. It holds each function five times: for Looked and for Bare
+as it stands, and for Noted, Counted and Altered with lines put in between that note what is met on the way; such a
+line ends in MARK. One expression is replaced, LOOKUP in handle_cube by GIVEN, but for Looked, which looks a cube's
+number up in the source's own CASES. The tilings, add_faces and compute_c_vertex are items of choice/rust.rs under the
+same names, so their calls stand as they are; so are, for Altered, the tables items of choice/altered.rs. CASES stands
+in a module by itself; suited signs are drawn from it. from_voxel, which numbers a cube, stands over a grid of eight
+values, choice/voxels.rs.
 
 The check cuts the source another way, by lines, and asks that OUT.rs without its noted lines and with
 LOOKUP back in its place is those bytes in FRAME, and that the noted lines are those of NOTES, as often
@@ -20,9 +21,14 @@ import re
 import sys
 from pathlib import Path
 
+FILES = ["meshing/marching_cubes.rs", "meshing/lookup_table.rs", "utils.rs"]
 FUNCTIONS = ["handle_cube", "test_face", "test_interior", "interior_ambiguity",
              "interior_ambiguity_verification", "interior_test_case13"]
 TABLES = ["TEST_3", "TEST_4", "TEST_6", "TEST_7", "TEST_10", "TEST_12", "TEST_13", "SUB_CONFIG_13"]
+
+# How a cube of a grid gets its number.
+NUMBERING = "from_voxel"
+LEAST = "const MIN_ABS_VERTEX_VALUE: f32 = "
 
 # The lookup of case and configuration, which are given instead.
 LOOKUP, GIVEN = "CASES[self.cube.id as usize]", "self.cube.given"
@@ -51,6 +57,19 @@ FRAME = """// Made by oracle/extract.py from the source; made anew at each build
 impl Bare {{
 {bare}}}
 
+mod by_number {{
+use super::{{Numbered as Cube, *}};
+use super::sets::CASES;
+
+impl Looked {{
+{own}
+    #[inline(always)]
+    pub fn handle(&mut self, cube: Cube) {{
+        self.handle_cube(Some(cube));
+    }}
+}}
+}}
+
 impl Noted {{
 {noted}}}
 
@@ -72,6 +91,19 @@ impl Altered {{
 {tables}
 pub mod sets {{
 {cases}}}
+
+pub mod numbering {{
+use crate::voxels::{{Cube, Vec3i, Vertex, VolumeGrid}};
+
+{least}
+{offsets}
+impl Cube {{
+{numbering}}}
+
+pub fn numbered(grid: &VolumeGrid) -> Option<Cube> {{
+    Cube::from_voxel(CUBE_OFFSETS[0], grid)
+}}
+}}
 """
 
 
@@ -80,12 +112,11 @@ def fail(what):
 
 
 def read(folder):
-    place = Path(folder) / "src" / "voxel" / "meshing"
-    files = [place / "marching_cubes.rs", place / "lookup_table.rs"]
-    for file in files:
-        if not file.is_file():
-            fail(f"no {file.name} in {place}")
-    return [file.read_bytes().decode() for file in files]
+    place = Path(folder) / "src" / "voxel"
+    for file in FILES:
+        if not (place / file).is_file():
+            fail(f"no {file} in {place}")
+    return [(place / file).read_bytes().decode() for file in FILES]
 
 
 def only(found, what):
@@ -140,48 +171,57 @@ def noted(name, text):
     return "".join(lines)
 
 
-def framed(functions, tables, cases, note=lambda name, text: text):
+# `form` makes handle_cube take what is given; `note` puts the notes in.
+def framed(parts, form=lambda text: text, note=lambda name, text: text):
+    own, tables, cases, numbering = parts
+    functions = {**own, "handle_cube": form(own["handle_cube"])}
     return FRAME.format(
+        own="\n".join(own.values()),
         bare="\n".join(functions.values()),
         noted="\n".join(note(name, text) for name, text in functions.items()),
-        names=", ".join(TABLES), tables="\n".join(tables), cases=cases)
+        names=", ".join(TABLES), tables="\n".join(tables), cases=cases, **numbering)
 
 
 def cuts(cut, source):
     functions = {name: function(cut, source[0], name) for name in FUNCTIONS}
-    return functions, [table(cut, source[1], name) for name in TABLES], table(cut, source[1], "CASES")
+    numbering = {
+        "least": only(re.findall(f"^{re.escape(LEAST)}.*\n", source[0], re.M), LEAST),
+        "offsets": table(cut, source[2], "CUBE_OFFSETS"),
+        "numbering": function(cut, source[0], NUMBERING),
+    }
+    return functions, [table(cut, source[1], name) for name in TABLES], table(cut, source[1], "CASES"), numbering
 
 
 def write(source, out):
-    functions, tables, cases = cuts(by_braces, source)
-    functions["handle_cube"] = given(functions["handle_cube"])
-    Path(out).write_bytes(framed(functions, tables, cases, noted).encode())
+    Path(out).write_bytes(framed(cuts(by_braces, source), given, noted).encode())
 
 
 def check(source, out):
     if any(ours in text for ours in (MARK, GIVEN) for text in source):
         fail("the source has words of ours")
-    functions, tables, cases = cuts(by_lines, source)
+    parts = cuts(by_lines, source)
     text = Path(out).read_bytes().decode()
     lines = text.splitlines(keepends=True)
     bare = "".join(line for line in lines if not line.endswith(MARK))
-    if bare.count(GIVEN) != 4 or bare.replace(GIVEN, LOOKUP) != framed(functions, tables, cases):
+    if bare.count(GIVEN) != 4 or bare.count(LOOKUP) != 1 or bare.replace(GIVEN, LOOKUP) != framed(parts):
         fail("the extract is not verbatim")
     notes = [line[:-len(MARK)] for line in lines if line.endswith(MARK)]
     wanted = [note for parts in NOTES.values() for _, note, times in parts for _ in range(3 * times)]
     if sorted(notes) != sorted(wanted):
         fail("the notes are not those of the list")
-    if text.replace(GIVEN, LOOKUP) != framed(functions, tables, cases, noted):
+    if text.replace(GIVEN, LOOKUP) != framed(parts, note=noted):
         fail("a note is not in its place")
-    report(source, functions, tables, notes)
+    report(source, parts, notes)
 
 
-def report(source, functions, tables, notes):
-    for name, text in zip(("marching_cubes.rs", "lookup_table.rs"), source):
-        print(f"{name} {hashlib.sha256(text.encode()).hexdigest()}", file=sys.stderr)
+def report(source, parts, notes):
+    for name, text in zip(FILES, source):
+        print(f"{Path(name).name} {hashlib.sha256(text.encode()).hexdigest()}", file=sys.stderr)
+    functions, tables, _, numbering = parts
     size = sum(len(text) for text in functions.values())
-    print(f"the extract is verbatim but for the lookup: {len(functions)} functions of {size} bytes, "
-          f"{len(tables)} tables and CASES; {len(notes) // 3} notes in each noted copy", file=sys.stderr)
+    print(f"the extract is verbatim, but for the lookup in four copies of five: {len(functions)} functions of {size} "
+          f"bytes, {len(tables)} tables and CASES; {len(notes) // 3} notes in each noted copy; {NUMBERING} of "
+          f"{len(numbering['numbering'])} bytes", file=sys.stderr)
 
 
 def main(words):

@@ -1,14 +1,17 @@
 """The calls that crates/library_calls makes, and their answers, from outside:
 
     oracle/choice.sh SOURCE choices < crates/mc33/stdin > CHOICES
-    python3 oracle/library_calls.py calls < CHOICES > crates/library_calls/stdin
-    python3 oracle/library_calls.py answers < CHOICES > crates/library_calls/stdout
+    oracle/choice.sh SOURCE signs < crates/mc33/stdin > SIGNS
+    python3 oracle/library_calls.py calls CHOICES SIGNS > crates/library_calls/stdin
+    python3 oracle/library_calls.py answers CHOICES SIGNS > crates/library_calls/stdout
 
 The version is the header's. Choices are document 01's own for its cubes to check by hand, with unsettled as document
 02's Change 2 gives it, no pick without a match and Change 7's figures for the readings, and the Rust's for the cubes of
-mc33's sample, from standard input, held to crates/mc33/stdout. Lists, refusals, face tests, edge readings and roots are
-worked out here from document 01's text. Each operation is made in binary64 and rounded to binary32, which for +, -, ×,
-/ and the root of normal results is the same as rounding once.
+mc33's sample: CHOICES, held to crates/mc33/stdout, and by signs SIGNS, which takes the family from the source's CASES.
+Families are worked out here from the rule of document 02's Change 1, and held to crates/set_families/stdout, which is
+made from CASES. Lists, refusals, face tests, edge readings and roots are worked out here from document 01's text. Each
+operation is made in binary64 and rounded to binary32, which for +, -, ×, / and the root of normal results is the same
+as rounding once.
 """
 import math
 import pathlib
@@ -67,7 +70,9 @@ def say(call, answer):
     answers.append(answer)
 
 
+# The program takes a line of 72 bytes or more for a call.
 def note(text):
+    assert len(text) < 70, text
     say('# ' + text, '# ' + text)
 
 
@@ -91,11 +96,10 @@ def release():
     held.clear()
 
 
-# Document 01, 'List' and 'What is refused', with document 02's rows: 6, 7, then the cubes from the first; a refused list
-# has every byte unchanged.
-def outcome(values, numbers, room):
-    cubes = values // 8
-    if values % 8 or numbers % 2 or cubes != numbers // 2:
+# Document 01, 'List' and 'What is refused', with document 02's rows: 6, 7, then the cubes from the first; a refused
+# list has every byte unchanged.
+def outcome(even, cubes, room):
+    if not even:
         return 6, 0, []
     if room < ROW * cubes:
         return 7, 0, []
@@ -107,39 +111,54 @@ def outcome(values, numbers, room):
     return 0, 0, sum(rows, [])
 
 
-def choose_list(values, numbers, room):
-    why, place, rows = outcome(values, numbers, room)
+def say_list(call, answer, room):
+    why, place, rows = answer
     left = rows + [200] * (room - len(rows))
-    say(f'l {values:04} {numbers:04} {room:04}', f'l {why} {place}:' + ''.join(f' {byte}' for byte in left))
+    say(call, f'{call[0]} {why} {place}:' + ''.join(f' {byte}' for byte in left))
 
 
-def cubes_of_the_sample():
-    texts = (CRATES / 'mc33/stdin').read_text().split('\n')
+def choose_list(values, numbers, room):
+    even = values % 8 == 0 and numbers % 2 == 0 and values // 8 == numbers // 2
+    say_list(f'l {values:04} {numbers:04} {room:04}', outcome(even, values // 8, room), room)
+
+
+# Each cube of the sample with its choice, and with that by signs.
+def cubes_of_the_sample(choices, choices_by_signs):
+    texts = (CRATES / 'mc33/stdin').read_text().split('\n')[1:]
     said = (CRATES / 'mc33/stdout').read_text().split('\n')
-    choices = sys.stdin.read().splitlines()
     printed = [answer for answer in said[1:] if answer[:1].isdigit()]
-    if choices != printed:
-        sys.exit("standard input has not the choices of mc33's sample")
-    return [(text, [int(number) for number in choice.split()]) for text, choice in zip(texts[1:], choices)]
+    files = [pathlib.Path(file).read_text().splitlines() for file in (choices, choices_by_signs)]
+    if files[0] != printed or len(files[1]) != len(printed):
+        sys.exit(f"{choices} or {choices_by_signs} has not the choices of mc33's sample")
+    return [[(text, [int(number) for number in choice.split()]) for text, choice in zip(texts, file)] for file in files]
+
+
+# Document 01's cubes to check by hand whose signs are those of their family, all but one: what `made` takes.
+SUITED = [
+    (3, 0, corners({0: 2, 2: 2}), 4, 0, 0, 0, 0, 1),
+    (3, 0, corners({0: 1, 2: 1, 1: -2, 3: -2}), 3, 0, 0, 0, 0, 1),
+    (3, 0, corners({0: 1, 2: 1}), 4, 0, 0, 0, 0, 1),
+    (3, 12, corners({5: -1, 7: -1}, 1), 3, 12, 0, 0, 0, 1),
+    (3, 0, corners({0: 1, 2: 1, 1: -(1 + STEP)}), 3, 0, 0, 0, 0, 1),
+    (3, 0, corners({0: 1, 2: 1 - STEP / 2}), 4, 0, 0, 0, 0, 1),
+    (4, 0, corners({0: 1, 6: 1}), 5, 0, 0, 0, 0, 3),
+    (4, 0, corners({0: 9, 6: 9}), 6, 0, 0, 0, 0, 3),
+    (4, 0, corners({0: 3, 6: 3}), 6, 0, 0, 0, 3, 3),
+    (7, 0, corners({0: 1, 2: 1, 5: 1}), 15, 0, 0, 0, 0, 6),
+    (10, 0, corners({0: 1, 1: 1, 6: 1, 7: 1}), 20, 5, 0, 0, 1, 3),
+    (12, 0, corners({0: 1, 1: 1, 2: 1, 7: 1}), 26, 23, 0, 0, 2, 4),
+    (13, 0, corners({0: 1, 2: 1, 5: 1, 7: 1}), 30, 0, 0, 0, 0, 6),
+    (13, 0, corners({0: 1, 2: 1, 5: 1, 7: 1}, -2), 29, 0, 0, 0, 0, 6),
+]
 
 
 def hand_cubes():
     note("document 01's cubes to check by hand")
-    made(3, 0, corners({0: 2, 2: 2}), 4, 0, 0, 0, 0, 1)
-    made(3, 0, corners({0: 1, 2: 1, 1: -2, 3: -2}), 3, 0, 0, 0, 0, 1)
-    made(3, 0, corners({0: 1, 2: 1}), 4, 0, 0, 0, 0, 1)
-    made(3, 12, corners({5: -1, 7: -1}, 1), 3, 12, 0, 0, 0, 1)
-    made(3, 0, corners({0: 1, 2: 1, 1: -(1 + STEP)}), 3, 0, 0, 0, 0, 1)
-    made(3, 0, corners({0: 1, 2: 1 - STEP / 2}), 4, 0, 0, 0, 0, 1)
-    made(4, 0, corners({0: 1, 6: 1}), 5, 0, 0, 0, 0, 3)
-    made(4, 0, corners({0: 9, 6: 9}), 6, 0, 0, 0, 0, 3)
-    made(4, 0, corners({0: 3, 6: 3}), 6, 0, 0, 0, 3, 3)
+    for cube in SUITED[:9]:
+        made(*cube)
     made(4, 0, corners({}, 1), 6, 0, 0, 0, 3, 3)
-    made(7, 0, corners({0: 1, 2: 1, 5: 1}), 15, 0, 0, 0, 0, 6)
-    made(10, 0, corners({0: 1, 1: 1, 6: 1, 7: 1}), 20, 5, 0, 0, 1, 3)
-    made(12, 0, corners({0: 1, 1: 1, 2: 1, 7: 1}), 26, 23, 0, 0, 2, 4)
-    made(13, 0, corners({0: 1, 2: 1, 5: 1, 7: 1}), 30, 0, 0, 0, 0, 6)
-    made(13, 0, corners({0: 1, 2: 1, 5: 1, 7: 1}, -2), 29, 0, 0, 0, 0, 6)
+    for cube in SUITED[9:]:
+        made(*cube)
     choose_list(120, 30, 90)
     release()
 
@@ -224,6 +243,143 @@ def refusals_of_a_cube():
         refused(*bad)
         choose_list(8, 2, 6)
         release()
+
+
+# ---- families and choices by signs: document 02, Change 1
+OFFSETS = ((0, 0, 0), (1, 0, 0), (1, 1, 0), (0, 1, 0), (0, 0, 1), (1, 0, 1), (1, 1, 1), (0, 1, 1))
+FIRSTS = (1, 3, 5, 65, 7, 21, 37, 15, 39, 85, 23, 30, 165, 29)
+
+
+# The corners to which a rotation takes corners 0 to 7: what quarter turns about z and about x make.
+def rotations():
+    quarters = (lambda x, y, z: (1 - y, x, z)), (lambda x, y, z: (x, 1 - z, y))
+    turns = [tuple(OFFSETS.index(turn(*place)) for place in OFFSETS) for turn in quarters]
+    found, more = set(), {tuple(range(8))}
+    while more:
+        found |= more
+        more = {tuple(turn[corner] for corner in rotation) for rotation in found for turn in turns} - found
+    assert len(found) == 24
+    return found
+
+
+def corners_in(number):
+    return [corner for corner in range(8) if number >> corner & 1]
+
+
+def families():
+    turned = rotations()
+    found = {0: (0, -1), 255: (0, -1)}
+    for case, first in enumerate(FIRSTS, 1):
+        numbers = {sum(1 << rotation[corner] for corner in corners_in(first)) for rotation in turned}
+        numbers |= {255 - number for number in numbers}
+        row = sorted(numbers, key=lambda number: (len(corners_in(number)), corners_in(number)))
+        found.update((number, (case, configuration)) for configuration, number in enumerate(row))
+    lines = [f'{number} {found[number][0]} {found[number][1]}' for number in range(256)]
+    if lines != (CRATES / 'set_families/stdout').read_text().splitlines():
+        sys.exit('set_families/stdout has not the families by the rule')
+    return found
+
+
+FAMILIES = families()
+
+
+def family(number):
+    case, configuration = FAMILIES[number]
+    say(f'k {number}', f'k {case} {configuration}')
+
+
+# The first and the last row of each case, in the cases' order.
+def families_of_each_case():
+    note('families: sets 0 and 255, and the first and the last row of each case')
+    family(0)
+    family(255)
+    for case in range(1, 15):
+        rows = [number for number in FAMILIES if FAMILIES[number][0] == case]
+        for end in min, max:
+            family(end(rows, key=lambda number: FAMILIES[number][1]))
+
+
+def choose_by_signs(text, numbers):
+    say('s ' + text, 's ' + ' '.join(map(str, numbers)))
+    held.append(numbers)
+
+
+# As `made`, where the signs alone give that family; the line's case and configuration are not asked for.
+def made_by_signs(case, configuration, cube, *tiling):
+    assert FAMILIES[sum(1 << corner for corner in range(8) if cube[corner] > 0)] == (case, configuration), cube
+    choose_by_signs(line(0, 0, cube), [0, *tiling[:5], 0, tiling[5]])
+
+
+def refused_by_signs(cube):
+    choose_by_signs(line(15, 99, cube), [3, 0, 0, 0, 0, 0, 0, 0])
+
+
+def list_by_signs(values, room):
+    say_list(f'm {values:04} {room:04}', outcome(values % 8 == 0, values // 8, room), room)
+
+
+def lists_by_signs(text, *sizes):
+    note(text)
+    for values, room in sizes:
+        list_by_signs(values, room)
+
+
+def hand_cubes_by_signs():
+    note("by signs: document 01's cubes to check by hand")
+    for cube in SUITED:
+        made_by_signs(*cube)
+    note('all above 0: empty')
+    made_by_signs(0, -1, corners({}, 1), 0, 0, 0, 0, 0, 0)
+    note('zeros of both signs do not belong: sets 0, 0, 1, 5, 5 and 5')
+    made_by_signs(0, -1, corners({0: 0.0}), 0, 0, 0, 0, 0, 0)
+    made_by_signs(0, -1, [0.0, -0.0] * 4, 0, 0, 0, 0, 0, 0)
+    made_by_signs(1, 0, corners({0: 1, 6: 0.0}), 1, 0, 0, 0, 0, 0)
+    made_by_signs(3, 0, corners({0: 2, 2: 2, 4: 0.0}), 4, 0, 0, 0, 0, 1)
+    made_by_signs(3, 0, corners({0: 1, 2: 1, 1: 0.0}), 4, 0, 0, 0, 0, 1)
+    made_by_signs(3, 0, corners({0: 1, 2: 1, 1: -2, 3: -2, 6: -0.0}), 3, 0, 0, 0, 0, 1)
+    list_by_signs(8 * len(held), ROW * len(held))
+    release()
+    note('by signs: 3 for each corner, for a NaN and both infinities')
+    for corner in range(8):
+        refused_by_signs(corners({corner: (NAN, INF, -INF)[corner % 3]}, 1))
+        list_by_signs(8, 6)
+        release()
+
+
+# `sampled` tells the first cube of the sample whose answer by signs passes a test.
+def rows_by_signs(sampled):
+    note('by signs: a row of each kind')
+    made_by_signs(0, -1, corners({}, 1), 0, 0, 0, 0, 0, 0)
+    sampled(lambda code, row, *_: code == 255 and row == 1)
+    sampled(lambda code, row, column, *_: code == 12 and column == 1 and row == 1)
+    sampled(lambda code, row, column, centre, *_: centre == 1 and column == 2)
+    for number in 1, 2, 3:
+        sampled(lambda code, row, column, centre, unsettled, unmatched, *_: (unsettled, unmatched) == (number, 0))
+        sampled(lambda code, row, column, centre, unsettled, unmatched, *_: unmatched == number)
+    sampled(lambda code, *choice: choice[-1] == 7)
+    values, room = 8 * len(held), ROW * len(held)
+    lists_by_signs('done, with a row more of room and with none', (values, room + ROW), (values, room))
+    lists_by_signs("6: a value less and more; a cube less is none; 6 before 7",
+                   (values - 1, room), (values + 1, room), (values - 8, room), (12, 0))
+    lists_by_signs('7: 1 cube and 5 bytes, or 4; all and a byte less, 4 a cube, none',
+                   (8, 5), (8, 4), (values, room - 1), (values, room // ROW * 4), (values, 0))
+    lists_by_signs('no cubes', (0, 6), (0, 0))
+    release()
+
+
+def refusals_by_signs():
+    good = 3, 0, corners({0: 2, 2: 2}), 4, 0, 0, 0, 0, 1
+    made_by_signs(*good)
+    refused_by_signs(corners({3: NAN}, 1))
+    made_by_signs(*good)
+    refused_by_signs(corners({0: -INF}, 1))
+    lists_by_signs('3 behind the list, at its end, within, before another; 7 and 6 first',
+                   (8, 6), (16, 12), (24, 18), (32, 24), (16, 11), (15, 11))
+    release()
+    refused_by_signs(corners({7: INF}))
+    made_by_signs(*good)
+    list_by_signs(16, 12)
+    release()
 
 
 # ---- a face test, by its rule
@@ -341,11 +497,17 @@ def version():
     answers.append(f'v {1000 * int(major) + int(minor)}')
 
 
+def first(sample, test):
+    return next((text, [0, *answer]) for text, answer in sample if test(*answer))
+
+
 def main():
+    if len(sys.argv) != 4 or sys.argv[1] not in ('calls', 'answers'):
+        sys.exit('calls CHOICES SIGNS | answers CHOICES SIGNS')
     version()
-    sample = cubes_of_the_sample()
+    sample, by_signs = cubes_of_the_sample(*sys.argv[2:])
     def sampled(test):
-        choose(*next((text, [0, *answer]) for text, answer in sample if test(*answer)))
+        choose(*first(sample, test))
 
     hand_cubes()
     kinds_of_row(sampled)
@@ -363,8 +525,15 @@ def main():
     note('and another behind them that is refused')
     refused(4, 8, corners({0: 2, 2: 2}), 2)
     choose_list(2400, 600, 1800)
-    if sys.argv[1:] not in (['calls'], ['answers']):
-        sys.exit('calls | answers')
+    release()
+    families_of_each_case()
+    hand_cubes_by_signs()
+    rows_by_signs(lambda test: choose_by_signs(*first(by_signs, test)))
+    refusals_by_signs()
+    note("by signs: more than 255 cubes, the first 299 of mc33's sample")
+    for text, answer in by_signs[:299]:
+        choose_by_signs(text, [0, *answer])
+    list_by_signs(2392, 1800)
     print('\n'.join(calls if sys.argv[1] == 'calls' else answers))
 
 

@@ -2,9 +2,10 @@
 use crate::cubes::{Random, Regime, REGIMES};
 use crate::families::{CONFIGURATIONS, FAMILIES, GIVEN, SUITED};
 use crate::library::{choose, edge, face, root_bits, Mc33Choice, Mc33Face};
-use crate::list::compare_lists;
+use crate::list::{compare_lists, compare_lists_by_signs};
 use crate::met::{face_answer, faces, met, print_met, read_alone, wanted, wanted_by_itself, FAMILY, THINGS};
 use crate::rust::{Both, Cube};
+use crate::signs::{compare_families, Front};
 use std::sync::atomic::{AtomicU64, Ordering};
 
 static DIFFERENCES: AtomicU64 = AtomicU64::new(0);
@@ -23,11 +24,12 @@ pub fn differ(what: String, ours: String, theirs: String) {
 struct Comparer {
     rust: Both,
     counts: Vec<u64>,
+    front: Front,
 }
 
 impl Comparer {
-    fn new() -> Self {
-        Comparer { rust: Both::new(), counts: vec![0; THINGS] }
+    fn new(seed: u64) -> Self {
+        Comparer { rust: Both::new(), counts: vec![0; THINGS], front: Front::new(seed) }
     }
 
     fn choice(&mut self, cube: &Cube) {
@@ -82,7 +84,7 @@ fn compare_face(corners: &[f32; 8], number: i8, theirs: Mc33Face) {
     }
 }
 
-// Cubes of a regime; every fourth has its edges and faces compared too.
+// Cubes of a regime, by the front too; every fourth has its edges and faces compared.
 fn compare_regime(regime: &Regime, cubes: u64, seed: u64, comparer: &mut Comparer) {
     let mut random = Random(seed);
     for place in 0..cubes {
@@ -93,6 +95,7 @@ fn compare_regime(regime: &Regime, cubes: u64, seed: u64, comparer: &mut Compare
             comparer.edges(&corners);
             comparer.faces(&corners);
         }
+        comparer.front.compare(&corners);
     }
 }
 
@@ -100,9 +103,10 @@ pub fn differences() -> u64 {
     DIFFERENCES.load(Ordering::Relaxed)
 }
 
-fn compare_cubes(cubes: u64, seed: u64) -> Vec<u64> {
+// What was met, and what by signs.
+fn compare_cubes(cubes: u64, seed: u64) -> (Vec<u64>, Front) {
     let half = cubes.div_ceil(2 * REGIMES.len() as u64);
-    let mut comparers = [Comparer::new(), Comparer::new()];
+    let mut comparers = [1, 2].map(|thread| Comparer::new(seed << 16 | thread << 8));
     println!("{:<54}{:>11}{:>8}", "regime", "cubes", "differ");
     for (place, regime) in REGIMES.iter().enumerate() {
         let before = differences();
@@ -114,11 +118,11 @@ fn compare_cubes(cubes: u64, seed: u64) -> Vec<u64> {
         });
         println!("{:<54}{:>11}{:>8}", regime.0, 2 * half, differences() - before);
     }
-    let [one, two] = comparers.map(|comparer| comparer.counts);
-    one.iter().zip(two).map(|(a, b)| a + b).collect()
+    let [one, two] = comparers;
+    (one.counts.iter().zip(two.counts).map(|(a, b)| a + b).collect(), one.front.with(two.front))
 }
 
-const NOT_FINITE: [u32; 6] = [0x7f80_0000, 0xff80_0000, 0x7fc0_0000, 0xffc0_0000, 0x7f80_0001, 0xffff_ffff];
+pub const NOT_FINITE: [u32; 6] = [0x7f80_0000, 0xff80_0000, 0x7fc0_0000, 0xffc0_0000, 0x7f80_0001, 0xffff_ffff];
 
 // Finite corners, then each corner in turn not finite, in each way.
 fn corners_to_refuse() -> Vec<[f32; 8]> {
@@ -134,11 +138,11 @@ fn corners_to_refuse() -> Vec<[f32; 8]> {
     all
 }
 
-fn are_finite(corners: &[f32; 8]) -> bool {
+pub fn are_finite(corners: &[f32; 8]) -> bool {
     corners.iter().all(|corner| corner.to_bits() & 0x7f80_0000 != 0x7f80_0000)
 }
 
-pub fn refusal(cube: &Cube) -> u8 {
+fn refusal(cube: &Cube) -> u8 {
     let [case, configuration] = cube.given;
     let known = |case| match case {
         0 => configuration == -1,
@@ -152,7 +156,7 @@ pub fn refusal(cube: &Cube) -> u8 {
     }
 }
 
-fn expected_choice(rust: &mut Both, cube: &Cube) -> Mc33Choice {
+pub fn expected_choice(rust: &mut Both, cube: &Cube) -> Mc33Choice {
     match refusal(cube) {
         0 => rust.choice(cube),
         refusal => Mc33Choice { refusal, ..Mc33Choice::default() },
@@ -223,15 +227,17 @@ fn compare_roots(patterns: u64, seed: u64) {
 }
 
 pub fn compare(cubes: u64, seed: u64) -> bool {
-    let counts = compare_cubes(cubes, seed);
+    let (counts, front) = compare_cubes(cubes, seed);
     let each_refusal = compare_refusals();
-    let each_outcome = compare_lists(seed);
+    let each_outcome = compare_lists(seed) & compare_lists_by_signs(seed);
+    let each_family = compare_families();
     compare_roots(4_000_000, seed);
     print_met(&counts);
     let all = wanted().into_iter().chain(wanted_by_itself());
     let unhit: Vec<String> = all.filter(|(thing, _)| counts[*thing] == 0).map(|(_, name)| name).collect();
     let cubes: u64 = counts[FAMILY..FAMILY + FAMILIES].iter().sum();
     let hit = if unhit.is_empty() { "nothing unhit".into() } else { format!("unhit: {}", unhit.join("; ")) };
+    let each_front = front.print();
     println!("\n{cubes} cubes, {} differ, {hit}", differences());
-    differences() == 0 && unhit.is_empty() && each_refusal && each_outcome
+    differences() == 0 && unhit.is_empty() && each_refusal && each_outcome && each_family && each_front
 }

@@ -3,7 +3,7 @@
 #[path = "../../rust/src/library.rs"]
 mod declared;
 
-pub use declared::{list, root_bits, Mc33Choice, Mc33Face, Mc33Outcome};
+pub use declared::{list, list_signs, root_bits, Mc33Choice, Mc33Face, Mc33Outcome};
 use declared::Cube;
 
 impl std::fmt::Display for Mc33Choice {
@@ -17,6 +17,17 @@ impl std::fmt::Display for Mc33Choice {
 #[inline]
 pub fn choose([case, configuration]: [i8; 2], corners: [f32; 8]) -> Mc33Choice {
     declared::choose(case, configuration, Cube(corners))
+}
+
+// Case and configuration of a set.
+pub fn family_of(set: u8) -> [i8; 2] {
+    let family = declared::family_of(set);
+    [family.case, family.configuration]
+}
+
+#[inline]
+pub fn choose_signs(corners: [f32; 8]) -> Mc33Choice {
+    declared::choose_signs(Cube(corners))
 }
 
 pub fn face(corners: &[f32; 8], face: i8) -> Mc33Face {

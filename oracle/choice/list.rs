@@ -1,8 +1,8 @@
-// Lists: the library's answers and refusals against the Rust's choices cube by cube.
-use crate::compare::{differ, differences, refusal};
+// Lists, with numbers and by signs: the library's answers and refusals against the Rust's choices cube by cube.
+use crate::compare::{are_finite, differ, differences, expected_choice};
 use crate::cubes::{Random, REGIMES};
 use crate::families::{GIVEN, SUITED};
-use crate::library::{list, Mc33Choice, Mc33Outcome};
+use crate::library::{list, list_signs, Mc33Choice, Mc33Outcome};
 use crate::rust::{Both, Cube};
 
 // Document 02, Change 10.
@@ -55,21 +55,23 @@ fn bytes(choice: &Mc33Choice) -> [u8; ROW_BYTES] {
     [code, row, column, centre + 2 * unsettled, unmatched, readings]
 }
 
-// Document 01, 'What is refused' and 'List', with document 02's rows of the Rust's choices.
-fn expected(lists: &Lists, rust: &mut Both) -> (Mc33Outcome, Vec<u8>) {
-    let Lists { corners, numbers, answers } = lists;
-    let refused = |refusal: u8, place: usize| (Mc33Outcome { refusal: refusal as u64, place: place as u64 }, answers.clone());
-    if corners.len() % 8 != 0 || numbers.len() % 2 != 0 || corners.len() / 8 != numbers.len() / 2 {
+// The outcome of a list and the bytes after it, by document 01, 'What is refused' and 'List', with document 02's rows:
+// 6 where the lengths are not `even`, 7, then the cubes from the first, each by its `choice`.
+fn expected(even: bool, cubes: usize, answers: &[u8], mut choice: impl FnMut(usize) -> Mc33Choice) -> Done {
+    let refused = |refusal: u8, place: usize| {
+        (Mc33Outcome { refusal: refusal as u64, place: place as u64 }, answers.to_vec())
+    };
+    if !even {
         return refused(6, 0);
     }
-    if answers.len() < ROW_BYTES * (corners.len() / 8) {
+    if answers.len() < ROW_BYTES * cubes {
         return refused(7, 0);
     }
     let mut written = Vec::new();
-    for (place, (corners, given)) in corners.chunks(8).zip(numbers.chunks(2)).enumerate() {
-        let cube = Cube { given: given.try_into().unwrap(), corners: corners.try_into().unwrap() };
-        match refusal(&cube) {
-            0 => written.extend(bytes(&rust.choice(&cube))),
+    for place in 0..cubes {
+        let choice = choice(place);
+        match choice.refusal {
+            0 => written.extend(bytes(&choice)),
             why => return refused(why, place),
         }
     }
@@ -77,19 +79,64 @@ fn expected(lists: &Lists, rust: &mut Both) -> (Mc33Outcome, Vec<u8>) {
     (Mc33Outcome { refusal: 0, place: 0 }, written)
 }
 
-// How many lists were done, and refused by 1, 2, 3, 6 and 7.
-pub fn compare_lists(seed: u64) -> bool {
+type Done = (Mc33Outcome, Vec<u8>);
+
+fn expected_of(Lists { corners, numbers, answers }: &Lists, rust: &mut Both) -> Done {
+    let even = corners.len() % 8 == 0 && numbers.len() % 2 == 0 && corners.len() / 8 == numbers.len() / 2;
+    expected(even, corners.len() / 8, answers, |place| {
+        let given = [numbers[2 * place], numbers[2 * place + 1]];
+        expected_choice(rust, &Cube { given, corners: corners_at(corners, place) })
+    })
+}
+
+// Document 02, 'Change 1': a cube is refused by 3 alone, and the Rust's choice is that for CASES at its signs' set.
+fn expected_by_signs(Lists { corners, answers, .. }: &Lists, rust: &mut Both) -> Done {
+    expected(corners.len() % 8 == 0, corners.len() / 8, answers, |place| {
+        let corners = corners_at(corners, place);
+        if are_finite(&corners) {
+            rust.choice_by_signs(&corners)
+        } else {
+            Mc33Choice { refusal: 3, ..Mc33Choice::default() }
+        }
+    })
+}
+
+fn corners_at(corners: &[f32], place: usize) -> [f32; 8] {
+    corners[8 * place..][..8].try_into().unwrap()
+}
+
+// A kind of list: its name, what it should do, what it does, and the refusals that have to be met.
+struct Kind {
+    name: &'static str,
+    expected: fn(&Lists, &mut Both) -> Done,
+    ours: fn(&mut Lists) -> Mc33Outcome,
+    wanted: &'static [usize],
+}
+
+// How many lists were done, and refused by each number.
+fn compare_kind(kind: &Kind, seed: u64) -> bool {
     let (before, mut random, mut rust, mut counts) = (differences(), Random(seed), Both::new(), [0; 8]);
     for number in 0..200_000 {
         let mut lists = lists(&mut random);
-        let (outcome, answers) = expected(&lists, &mut rust);
-        let ours = list(&lists.corners, &lists.numbers, &mut lists.answers);
+        let (outcome, answers) = (kind.expected)(&lists, &mut rust);
+        let ours = (kind.ours)(&mut lists);
         counts[outcome.refusal as usize] += 1;
         if (ours, &lists.answers) != (outcome, &answers) {
-            differ(format!("list {number}"), format!("{ours:?} {:?}", lists.answers), format!("{outcome:?} {answers:?}"));
+            let what = format!("{}, number {number}", kind.name);
+            differ(what, format!("{ours:?} {:?}", lists.answers), format!("{outcome:?} {answers:?}"));
         }
     }
-    println!("lists: {} of up to 99 cubes, {} differ; done and refused by 1 to 7: {counts:?}",
+    println!("{}: {} of up to 99 cubes, {} differ; done and refused by 1 to 7: {counts:?}", kind.name,
         counts.iter().sum::<u64>(), differences() - before);
-    [0, 1, 2, 3, 6, 7].iter().all(|&kind| counts[kind] > 0)
+    kind.wanted.iter().all(|&refusal| counts[refusal] > 0)
+}
+
+pub fn compare_lists(seed: u64) -> bool {
+    let ours = |lists: &mut Lists| list(&lists.corners, &lists.numbers, &mut lists.answers);
+    compare_kind(&Kind { name: "lists", expected: expected_of, ours, wanted: &[0, 1, 2, 3, 6, 7] }, seed)
+}
+
+pub fn compare_lists_by_signs(seed: u64) -> bool {
+    let ours = |lists: &mut Lists| list_signs(&lists.corners, &mut lists.answers);
+    compare_kind(&Kind { name: "lists by signs", expected: expected_by_signs, ours, wanted: &[0, 3, 6, 7] }, seed)
 }

@@ -67,6 +67,11 @@ pub fn met(rust: &Noted, choice: &Mc33Choice, mut meet: impl FnMut(usize)) {
     }
 }
 
+// How many choices each case had.
+pub fn case_counts(counts: &[u64]) -> [u64; 15] {
+    std::array::from_fn(|case| counts[READ + case * 8..][..8].iter().sum())
+}
+
 // All that choices have to meet, with names.
 pub fn wanted() -> Vec<(usize, String)> {
     let mut all = Vec::new();

@@ -159,6 +159,80 @@ pub fn handle(rust: &mut Bare, cube: &Cube) {
     rust.handle_cube(Some(*cube));
 }
 
+// A cube with its number, by which the source looks case and configuration up.
+#[derive(Clone, Copy)]
+pub struct Numbered {
+    id: u8,
+    corners: [f32; 8],
+}
+
+impl Numbered {
+    // Document 02, 'Change 1': bit n where corner n is above 0.
+    #[inline]
+    fn above(corners: &[f32; 8]) -> Self {
+        let mut id = 0;
+        for (corner, value) in corners.iter().enumerate() {
+            id |= ((*value > 0.0) as u8) << corner;
+        }
+        Numbered { id, corners: *corners }
+    }
+}
+
+impl std::ops::Index<usize> for Numbered {
+    type Output = f32;
+
+    #[inline]
+    fn index(&self, corner: usize) -> &f32 {
+        &self.corners[corner]
+    }
+}
+
+// The set of the corners above 0.
+pub fn set_above(corners: &[f32; 8]) -> u8 {
+    Numbered::above(corners).id
+}
+
+// The Rust as it stands, with its lookup in CASES.
+pub struct Looked {
+    cube: Numbered,
+    case: i8,
+    config: usize,
+    pub note: Note,
+    pub centre: bool,
+}
+
+impl Looked {
+    pub fn new() -> Self {
+        let cube = Numbered { id: 0, corners: [0.0; 8] };
+        Looked { cube, case: 0, config: 0, note: Note::default(), centre: false }
+    }
+
+    fn add_faces(&mut self, note: &Note) {
+        self.note = *note;
+    }
+
+    fn compute_c_vertex(&mut self) {
+        self.centre = true;
+    }
+}
+
+// By signs: one call for a cube, and a loop over cubes as `handle_list`.
+#[inline(never)]
+pub fn handle_signs(rust: &mut Looked, corners: &[f32; 8]) {
+    rust.handle(Numbered::above(corners));
+}
+
+#[inline(never)]
+pub fn handle_list_signs(rust: &mut Looked, cubes: &[[f32; 8]], answers: &mut [[u8; 4]]) {
+    for (corners, answer) in cubes.iter().zip(answers) {
+        rust.note = Note::default();
+        rust.centre = false;
+        rust.handle(Numbered::above(corners));
+        let Note { code, row, column } = rust.note;
+        *answer = [code, row, column, rust.centre as u8];
+    }
+}
+
 // The Rust with what document 02 counts and the sub-configuration noted, and nothing else; Altered reads the tables of
 // altered.rs.
 pub struct Counting<const ALTERED: bool> {
@@ -470,15 +544,16 @@ impl Noted {
     }
 }
 
-// The Rust by both copies, which have to agree.
+// The Rust by two copies, and by signs a third, which have to agree.
 pub struct Both {
     bare: Bare,
+    looked: Looked,
     pub noted: Noted,
 }
 
 impl Both {
     pub fn new() -> Self {
-        Both { bare: Bare::new(), noted: Noted::new() }
+        Both { bare: Bare::new(), looked: Looked::new(), noted: Noted::new() }
     }
 
     pub fn choice(&mut self, cube: &Cube) -> Mc33Choice {
@@ -490,6 +565,17 @@ impl Both {
         let same = (self.bare.note, self.bare.centre) == (self.noted.note, self.noted.centre);
         assert!(same, "the noted copy parts from the bare one: {:?}", cube.corners);
         self.noted.choice()
+    }
+
+    // The choice for what CASES has at the set of the corners above 0.
+    pub fn choice_by_signs(&mut self, corners: &[f32; 8]) -> Mc33Choice {
+        self.looked.note = Note::default();
+        self.looked.centre = false;
+        handle_signs(&mut self.looked, corners);
+        let choice = self.choice(&Cube { given: sets::CASES[set_above(corners) as usize], corners: *corners });
+        let same = (self.looked.note, self.looked.centre) == (self.noted.note, self.noted.centre);
+        assert!(same, "the copy with the lookup parts from the others: {corners:?}");
+        choice
     }
 
     // A reading and a face test of the cube of the last choice.

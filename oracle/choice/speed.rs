@@ -1,9 +1,9 @@
 // The speed of both on the same cubes.
 use crate::cubes::{free, suited, Random};
 use crate::families::{AMBIGUOUS, CONFIGURATIONS, GIVEN, STARTS, SUITED};
-use crate::library::{choose, list};
+use crate::library::{choose, choose_signs, list, list_signs};
 use crate::list::ROW_BYTES;
-use crate::rust::{handle, handle_list, Bare, Cube};
+use crate::rust::{handle, handle_list, handle_list_signs, handle_signs, Bare, Cube, Looked};
 use std::hint::black_box;
 use std::time::Instant;
 
@@ -51,6 +51,19 @@ fn courses() -> Vec<Course> {
     all
 }
 
+// Those by signs, where a cube's signs alone say its family: suited cubes again, whose signs have the family that is
+// drawn; and any signs, whose family may be any. Cubes of any signs with an ambiguous family are the suited ones.
+fn courses_by_signs() -> Vec<Course> {
+    let every: Vec<usize> = (0..15).collect();
+    let mut all = vec![
+        course("mixed families".into(), [0.85; 2], &every, suited_cube),
+        course("ambiguous families".into(), [1.0; 2], &AMBIGUOUS, suited_cube),
+        course("any signs".into(), [1.0; 2], &every, unsuited_cube),
+    ];
+    all.extend((0..15).map(|case| course(format!("case {case}"), [1.0; 2], &[case], suited_cube)));
+    all
+}
+
 // Nanoseconds a cube.
 #[inline(never)]
 fn time_ours(cubes: &[Cube]) -> f64 {
@@ -66,6 +79,25 @@ fn time_theirs(cubes: &[Cube], rust: &mut Bare) -> f64 {
     let start = Instant::now();
     for cube in cubes {
         handle(rust, cube);
+        black_box((rust.note, rust.centre));
+    }
+    start.elapsed().as_nanos() as f64 / cubes.len() as f64
+}
+
+#[inline(never)]
+fn time_our_front(cubes: &[[f32; 8]]) -> f64 {
+    let start = Instant::now();
+    for corners in cubes {
+        black_box(choose_signs(*corners));
+    }
+    start.elapsed().as_nanos() as f64 / cubes.len() as f64
+}
+
+#[inline(never)]
+fn time_their_front(cubes: &[[f32; 8]], rust: &mut Looked) -> f64 {
+    let start = Instant::now();
+    for corners in cubes {
+        handle_signs(rust, corners);
         black_box((rust.note, rust.centre));
     }
     start.elapsed().as_nanos() as f64 / cubes.len() as f64
@@ -95,6 +127,21 @@ fn time_our_list(lists: &mut Lists) -> f64 {
 fn time_their_list(cubes: &[Cube], answers: &mut [[u8; 4]], rust: &mut Bare) -> f64 {
     let start = Instant::now();
     handle_list(rust, cubes, answers);
+    black_box(&answers);
+    start.elapsed().as_nanos() as f64 / cubes.len() as f64
+}
+
+fn time_our_list_by_signs(cubes: &[[f32; 8]], answers: &mut [[u8; ROW_BYTES]]) -> f64 {
+    let start = Instant::now();
+    let outcome = list_signs(cubes.as_flattened(), answers.as_flattened_mut());
+    assert_eq!(outcome.refusal, 0);
+    black_box(&answers);
+    start.elapsed().as_nanos() as f64 / cubes.len() as f64
+}
+
+fn time_their_list_by_signs(cubes: &[[f32; 8]], answers: &mut [[u8; 4]], rust: &mut Looked) -> f64 {
+    let start = Instant::now();
+    handle_list_signs(rust, cubes, answers);
     black_box(&answers);
     start.elapsed().as_nanos() as f64 / cubes.len() as f64
 }
@@ -136,20 +183,49 @@ pub fn once(name: &str) -> bool {
     found.is_some()
 }
 
-pub fn speed() -> bool {
-    let (mut rust, mut fast) = (Bare::new(), true);
-    println!("{:<24}{:>25}{:>25}", "ns a cube", "choice", "list");
+fn print_head(what: &str, columns: [&str; 2]) {
+    println!("{what:<24}{:>25}{:>25}", columns[0], columns[1]);
     println!("{:<24}{:>9}{:>9}{:>7}{:>9}{:>9}{:>7}", "", "ours", "Rust's", "times", "ours", "Rust's", "times");
+}
+
+fn speed_of_given() -> bool {
+    let (mut rust, mut fast) = (Bare::new(), true);
+    print_head("ns a cube", ["choice", "list"]);
     for course in courses() {
         print!("{:<24}", course.name);
-        let choices = print_race(race(|| time_ours(&course.cubes), || time_theirs(&course.cubes, &mut rust)), course.limits[0]);
+        let [limit, list_limit] = course.limits;
+        let choices = print_race(race(|| time_ours(&course.cubes), || time_theirs(&course.cubes, &mut rust)), limit);
         let (mut lists, mut answers) = (lists(&course.cubes), vec![[0; 4]; course.cubes.len()]);
         let listed = print_race(race(
             || time_our_list(&mut lists),
             || time_their_list(&course.cubes, &mut answers, &mut rust),
-        ), course.limits[1]);
+        ), list_limit);
         println!();
         fast &= choices & listed;
     }
     fast
+}
+
+fn speed_by_signs() -> bool {
+    let (mut rust, mut fast) = (Looked::new(), true);
+    print_head("ns a cube, by signs", ["front", "list"]);
+    for course in courses_by_signs() {
+        print!("{:<24}", course.name);
+        let cubes: Vec<[f32; 8]> = course.cubes.iter().map(|cube| cube.corners).collect();
+        let [limit, list_limit] = course.limits;
+        let fronts = print_race(race(|| time_our_front(&cubes), || time_their_front(&cubes, &mut rust)), limit);
+        let (mut rows, mut answers) = (vec![[0; ROW_BYTES]; cubes.len()], vec![[0; 4]; cubes.len()]);
+        let listed = print_race(race(
+            || time_our_list_by_signs(&cubes, &mut rows),
+            || time_their_list_by_signs(&cubes, &mut answers, &mut rust),
+        ), list_limit);
+        println!();
+        fast &= fronts & listed;
+    }
+    fast
+}
+
+pub fn speed() -> bool {
+    let given = speed_of_given();
+    speed_by_signs() & given
 }

@@ -126,11 +126,20 @@ pub fn text() -> bool {
 // The numbers of each choice as the library should give them, for the cubes of an input.
 pub fn choices() -> bool {
     let mut rust = Both::new();
-    for cube in sampled_cubes() {
-        let Mc33Choice { code, row, column, centre, unsettled, unmatched, readings, .. } = rust.choice(&cube);
-        println!("{code} {row} {column} {centre} {unsettled} {unmatched} {readings}");
-    }
+    sampled_cubes().iter().for_each(|cube| print_choice(&rust.choice(cube)));
     true
+}
+
+// The same for their corners alone.
+pub fn choices_by_signs() -> bool {
+    let mut rust = Both::new();
+    sampled_cubes().iter().for_each(|cube| print_choice(&rust.choice_by_signs(&cube.corners)));
+    true
+}
+
+fn print_choice(choice: &Mc33Choice) {
+    let Mc33Choice { code, row, column, centre, unsettled, unmatched, readings, .. } = choice;
+    println!("{code} {row} {column} {centre} {unsettled} {unmatched} {readings}");
 }
 
 // The cubes of an input, up to a line that is none.

@@ -4,15 +4,19 @@
 //   c: `mc33_choose`, by the case and the configuration; the cube is held, behind those held before
 //   f: `mc33_face`, and e: `mc33_edge`, of the number that stands for the case
 //   r: `mc33_root` of c0, and `mc33_root_bits` of its bits
+//   s: `mc33_choose_signs`; the cube is held too
 //   l VALUES NUMBERS BYTES: `mc33_list` of so many values and numbers of the cubes held, and zeros behind them, with
 //     so many answer bytes, each 200 before
+//   m VALUES BYTES: `mc33_list_signs`, likewise
+//   k SET: `mc33_family_of`
 // After an empty line no cube is held. A line of less than 72 bytes without a call is printed as it is. Of an
 // answer its numbers are printed in their order, and behind a list's the answer bytes; for a value x there stands
 // 2 × x + 100, or 255 where that is no whole number from 0 to 254.
 //
 // The answers in `stdout` come from outside, by oracle/library_calls.py, which knows nothing of this code: the version
-// is the header's; choices are document 01's own for its cubes and the Rust's for the cubes of mc33's sample; lists,
-// refusals, faces, readings and roots are worked out from document 01's text.
+// is the header's; choices are document 01's own for its cubes and the Rust's for the cubes of mc33's sample, by signs
+// with the source's CASES; families are worked out from the rule of document 02, 'Change 1'; lists, refusals, faces,
+// readings and roots from document 01's text.
 #![tactic(auto)]
 
 ghost use Rattle.std.specs.Prelude.{◌≤◌, length};
@@ -28,7 +32,7 @@ struct Held {
     numbers: Vec<i8>,
 }
 
-// How many values, numbers and answer bytes a line asks a list of.
+// How many values, numbers and answer bytes a line asks a list of; no numbers by signs.
 #[derive(Clone, Copy)]
 struct Sizes {
     values: usize,
@@ -53,15 +57,25 @@ impl Held {
         Ok(())
     }
 
-    // The list of so many values and numbers.
-    fn list(&self, rt: &(impl Print + AllocGlobal), sizes: Sizes) -> io::Result<()> {
+    // The list of so many values and numbers, or of the values by signs.
+    fn list(
+        &self,
+        rt: &(impl Print + AllocGlobal),
+        by_signs: bool,
+        sizes: Sizes,
+    ) -> io::Result<()> {
         let mut corners = self.corners.clone()?;
         corners.resize(sizes.values, 0.0)?;
         let mut numbers = self.numbers.clone()?;
         numbers.resize(sizes.numbers, 0)?;
         let mut answers = vec![in rt.alloc(); 200u8; sizes.bytes]?;
-        let outcome = mc33_c::mc33_list(&corners, &numbers, &mut answers);
-        print!(rt; "l {} {}:", outcome.refusal, outcome.place)?;
+        let outcome = if by_signs {
+            mc33_c::mc33_list_signs(&corners, &mut answers)
+        } else {
+            mc33_c::mc33_list(&corners, &numbers, &mut answers)
+        };
+        let letter = if by_signs { 'm' } else { 'l' };
+        print!(rt; "{letter} {} {}:", outcome.refusal, outcome.place)?;
         print_numbers(rt, &answers)
     }
 
@@ -82,7 +96,7 @@ impl Held {
             ),
             letter => {
                 choose(rt, letter, line)?;
-                if letter == b'c' {
+                if letter == b'c' || letter == b's' {
                     self.hold(line.case, line.configuration, line.cube)?;
                 }
                 Ok(())
@@ -95,11 +109,14 @@ impl Held {
             *self = Held::none(rt.alloc());
             return Ok(());
         }
-        if line.starts_with('l') {
+        if line.starts_with('l') || line.starts_with('m') {
             return match sizes_of(line) {
-                Some(sizes) => self.list(rt, sizes),
+                Some((by_signs, sizes)) => self.list(rt, by_signs, sizes),
                 None => Ok(()),
             };
+        }
+        if line.starts_with('k') {
+            return family(rt, line);
         }
         if 72 <= line.len() {
             return self.call(rt, line.as_bytes());
@@ -108,15 +125,32 @@ impl Held {
     }
 }
 
-// The three numbers of a list's line, behind its letter.
-fn sizes_of(line: &str) -> Option<Sizes> {
+// Whether a list's line is by signs, and the numbers behind its letter.
+fn sizes_of(line: &str) -> Option<(bool, Sizes)> {
+    let mut words = line.split(' ');
+    let by_signs = words.next()? == "m";
+    let values = words.next()?.parse().ok()?;
+    let numbers = if by_signs {
+        0
+    } else {
+        words.next()?.parse().ok()?
+    };
+    let bytes = words.next()?.parse().ok()?;
+    Some((
+        by_signs,
+        Sizes {
+            values,
+            numbers,
+            bytes,
+        },
+    ))
+}
+
+// The number behind the letter of a family's line.
+fn set_of(line: &str) -> Option<u8> {
     let mut words = line.split(' ');
     let _letter = words.next()?;
-    Some(Sizes {
-        values: words.next()?.parse().ok()?,
-        numbers: words.next()?.parse().ok()?,
-        bytes: words.next()?.parse().ok()?,
-    })
+    words.next()?.parse().ok()
 }
 
 // A space and a number each, and the line's end.
@@ -134,8 +168,20 @@ fn code(x: f32) -> u8 {
         .unwrap_or(255)
 }
 
+fn family(rt: &impl Print, line: &str) -> io::Result<()> {
+    let Some(set) = set_of(line) else {
+        return Ok(());
+    };
+    let family = mc33_c::mc33_family_of(set);
+    println!(rt; "k {} {}", family.case, family.configuration)
+}
+
 fn choose(rt: &impl Print, letter: u8, line: line::Line) -> io::Result<()> {
-    let r = mc33_c::mc33_choose(line.case, line.configuration, line.cube);
+    let r = if letter == b's' {
+        mc33_c::mc33_choose_signs(line.cube)
+    } else {
+        mc33_c::mc33_choose(line.case, line.configuration, line.cube)
+    };
     print!(rt; "{}", char::from(letter))?;
     print_numbers(
         rt,

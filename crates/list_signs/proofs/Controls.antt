@@ -1,6 +1,6 @@
--- The tries of `Tries`: its lists by computation, any number of cubes by `Empties`. Assumes nothing.
-use mathlib.Core.Path.{◌≡◌, refl, ◌∙◌}
-use mathlib.Core.List.{map}
+-- The lists of `Tries` by computation, their choices by the table; and that the number of a list's refusal says something. Assumes nothing.
+use mathlib.Core.Path.{◌≡◌, refl}
+use mathlib.Core.List.{[], ◌∷◌, map}
 use lib.ListN.{length}
 use lib.Ieee.{of_bits, neg, add, sub, mul, div, lt, eq, le, is_nan, of_int}
 use Rattle.cube.specs.Bits.{number_of}
@@ -19,24 +19,19 @@ use Rattle.choice.specs.Choice.{choice_of}
 use Rattle.signs.specs.Sets.{set_by, set_of}
 use Rattle.signs.specs.Table.{families, family_at}
 use Rattle.reader.specs.Reader.{cube_at}
-use Rattle.rows.specs.Rows.{bytes_of}
+use Rattle.rows.specs.Rows.{bytes_of, done, refused_at}
 use Rattle.list.specs.Lists.{first_from, result_by, rows_of}
-use Rattle.list_signs.specs.Lists.{refusal_at, result_of, answers_of}
-use Rattle.list_signs.specs.Tries.{Try, tries, values, ListTries}
-use Rattle.list_signs.proofs.Empties.{any_number_lem}
-use Rattle.list_signs.proofs.Tabled.{answers_tabled, answers_same, map_same}
+use Rattle.list_signs.specs.Lists.{refusal_at, result_of, number_in}
+use Rattle.list_signs.specs.Tries.{tries, values}
+use Rattle.list_signs.proofs.Tabled.{answers_tabled}
 
-by_table : map (λ t. answers_tabled (values t) t.answers) tries ≡ map (λ t. t.leaves) tries
+pub answers_hold : map (λ t. answers_tabled (values t) t.answers) tries ≡ map (λ t. t.leaves) tries
 unfolding tries refusal_at first_from result_by result_of bytes_of rows_of cube_at families family_at set_of set_by number_of choice_of run settled ask_in_turn plan_of plans plan3 plan4 plan6 plan13 part13 tile13 last_from parts13 TEST_3 TEST_4 TEST_6 TEST_13 SUB_CONFIG_13 configurations has_centre face_of face_by rule face_corner face_corners inside_of inside_by joined look_at seen_as pick_by pick_with last_match any_match diagonals edge_by read_by cross_by move_of moves corner_of value_at corners all_finite of_bits neg add sub mul div lt eq le is_nan of_int
-by_table = refl
+answers_hold = refl
 
-outcomes_hold : map (λ t. result_of (values t) (length t.answers)) tries ≡ map (λ t. t.says) tries
+pub outcomes_hold : map (λ t. result_of (values t) (length t.answers)) tries ≡ map (λ t. t.says) tries
 unfolding tries refusal_at first_from result_by result_of cube_at corner_of value_at corners all_finite of_bits
 outcomes_hold = refl
 
-pub tries_hold : ListTries
-tries_hold = record {
-  outcomes = outcomes_hold;
-  answers = map_same (λ (t : Try). answers_of (values t) t.answers) (λ t. answers_tabled (values t) t.answers) (λ t. answers_same (values t) t.answers) tries ∙ by_table;
-  any_number = any_number_lem;
-}
+numbers_hold : map number_in (done ∷ refused_at 6 0 ∷ refused_at 3 300 ∷ []) ≡ 0 ∷ 6 ∷ 3 ∷ []
+numbers_hold = refl

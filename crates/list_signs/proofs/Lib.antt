@@ -2,3 +2,4 @@ mod Controls
 mod Empties
 mod Numbers
 mod Tabled
+mod Tried

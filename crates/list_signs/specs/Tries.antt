@@ -19,8 +19,8 @@ try xs ys r zs = record { corners = xs; answers = ys; says = r; leaves = zs }
 abbrev nought : List ℕ
 nought = 0xbf800000 ∷ 0x00000000 ∷ 0xbf800000 ∷ 0xbf800000 ∷ 0xbf800000 ∷ 0xbf800000 ∷ 0xbf800000 ∷ 0xbf800000 ∷ []
 
-abbrev whole : List ℕ
-whole = 0x40000000 ∷ 0x40400000 ∷ 0x3f800000 ∷ 0x3f800000 ∷ 0x40400000 ∷ 0x40400000 ∷ 0x3f800000 ∷ 0x40000000 ∷ []
+abbrev full : List ℕ
+full = 0x40000000 ∷ 0x40400000 ∷ 0x3f800000 ∷ 0x3f800000 ∷ 0x40400000 ∷ 0x40400000 ∷ 0x3f800000 ∷ 0x40000000 ∷ []
 
 -- as the Rust chooses, 13/0 and 13/1, each with a zero: no tiling
 abbrev untiled : List ℕ
@@ -48,7 +48,7 @@ tries =
     ∷ try (first ++ second) (room ++ room) done (4 ∷ 0 ∷ 0 ∷ 0 ∷ 0 ∷ 1 ∷ 3 ∷ 0 ∷ 0 ∷ 0 ∷ 0 ∷ 1 ∷ [])
     ∷ try (third ++ first) (room ++ room ++ room) done (6 ∷ 0 ∷ 0 ∷ 6 ∷ 0 ∷ 3 ∷ 4 ∷ 0 ∷ 0 ∷ 0 ∷ 0 ∷ 1 ∷ room)
     -- empty, by either set
-    ∷ try (nought ++ whole) (room ++ room) done (0 ∷ 0 ∷ 0 ∷ 0 ∷ 0 ∷ 0 ∷ 0 ∷ 0 ∷ 0 ∷ 0 ∷ 0 ∷ 0 ∷ [])
+    ∷ try (nought ++ full) (room ++ room) done (0 ∷ 0 ∷ 0 ∷ 0 ∷ 0 ∷ 0 ∷ 0 ∷ 0 ∷ 0 ∷ 0 ∷ 0 ∷ 0 ∷ [])
     -- no tiling in either configuration
     ∷ try (untiled ++ untiled1) (room ++ room) done (255 ∷ 0 ∷ 15 ∷ 0 ∷ 0 ∷ 6 ∷ 255 ∷ 1 ∷ 53 ∷ 0 ∷ 0 ∷ 6 ∷ [])
     -- a row, a column and a centre; a row and a pick without a match

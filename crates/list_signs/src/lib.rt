@@ -40,7 +40,7 @@ impl CubeList for Corners<'_> {
 
 // A choice for each cube by the signs of its corners, a row of answer bytes each. Refusal 6 where the values are not
 // 8 a cube, then 7, then 3 at the first cube that has a corner not finite; never 1 or 2. Two slices, as C lends them.
-#[tactic(auto, using(crate::proofs::Controls::tries_hold))]
+#[tactic(auto, using(crate::proofs::Tried::tries_hold))]
 pub fn choose_list_signs(corners: &[f32], answers: &mut [u8]) -> Result<(), ListRefused>
     ensures outcome { outcome_result result ≡ result_of corners.now (length answers.old) }
     ensures answers { answers.new ≡ answers_of corners.now answers.old }

@@ -1,4 +1,5 @@
 pub mod Places
 pub mod Rows
+mod Stored
 pub mod Parts
 mod Controls

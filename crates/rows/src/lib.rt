@@ -130,13 +130,17 @@ pub fn row_of(r: Counted) -> Row
     }
 }
 
-// Puts the row of cube i.
-#[tactic(auto, using(put::proofs::Placed::copied))]
+// Puts the row of cube i, byte by byte: copied from an array of the six, the machine waited for its bytes to be stored.
+#[tactic(auto, using(crate::proofs::Stored::six_stored))]
 pub fn put_row(r: Row, answers: &mut [u8], i: usize)
     requires { width * i + width ≤ length answers.old }
     ensures { answers.new ≡ placed answers.old (width * i) (bytes_in r) }
 {
     let at = WIDTH * i;
-    let bytes = [r.code, r.row, r.column, r.rest, r.unmatched, r.readings];
-    answers[at..at + WIDTH].copy_from_slice(&bytes);
+    answers[at] = r.code;
+    answers[at + 1] = r.row;
+    answers[at + 2] = r.column;
+    answers[at + 3] = r.rest;
+    answers[at + 4] = r.unmatched;
+    answers[at + 5] = r.readings;
 }

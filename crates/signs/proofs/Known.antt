@@ -69,6 +69,9 @@ module _ (q : Cube) (set : ℕ) (f : Family) (e : set ≡ set_of q) (i : f ≡ f
   pub chosen_so : (r : Reached) → r ≡ choice_of (to_z w8 (of_z w8 f.case)) (to_z w8 (of_z w8 f.configuration)) q → r ≡ choice_for q
   chosen_so r h = h ∙ ap (λ (g : Family). choice_of g.case g.configuration q) read_so
 
+pub is_finite : (q : Cube) (b : Bool) → b ≡ all_finite q → b ≡ true → T (all_finite q)
+is_finite q b e h = subst T (sym h ∙ e) tt
+
 -- ---- what is said, b being what the code has found of the corners
 module _ (q : Cube) (b : Bool) (e : b ≡ all_finite q) where
   said_by : (d : Bool) → b ≡ d → cond d (made (choice_for q)) (refused 3) ≡ front_of q

@@ -1,26 +1,23 @@
 -- The set of a cube, bit by bit. Assumes nothing.
 use mathlib.Core.Path.{◌≡◌, refl, sym, ◌∙◌, ap}
-use mathlib.Core.Bool.{Bool, true, false}
+use mathlib.Core.Bool.{Bool, true, false, cond}
 use mathlib.Core.List.{List, [], ◌∷◌, map}
-use Prim.Native.Nat.{ℕ, zero, suc, ◌+◌, ◌*◌, ◌/◌, ◌%◌, ◌^◌, ◌<◌}
+use Prim.Native.Nat.{ℕ, zero, suc, ◌+◌, ◌-◌, ◌*◌, ◌/◌, ◌%◌, ◌^◌, ◌<◌}
 use native.Mathlib.Nat.{div-div-eq-div-mul, pow-succ', zero-div, div-one}
 use native.Mathlib.Omega.{arith}
-use lib.ListN.{get_or}
-use lib.Ieee.{lt}
+use lib.Dec.{lit≤}
+use lib.ListN.{get_or, replicate}
+use lib.Lanes.{zip2, top, mask_l}
+use lib.Ieee.{Float, lt}
+use mir.Syntax.{w32}
+use Rattle.std.proofs.lemmas.Simd.{tops_compared, mask_l-mod}
 use Rattle.binary32.specs.Numbers.{plus_zero}
 use Rattle.cube.specs.declared.Cube.{Cube}
 use Rattle.cube.specs.Bits.{bit_of, number_of}
-use Rattle.cube.specs.Corners.{corner_of}
+use Rattle.cube.specs.Corners.{corners, value_at, corner_of}
 use Rattle.cube.proofs.Bounds.{number_below}
 use Rattle.cube.proofs.Table.{agree}
 use Rattle.signs.specs.Sets.{eight, bit, set_by, set_of}
-
--- a set as the code makes it, of three, three and two corners
-pub of_parts : (b0 b1 b2 b3 b4 b5 b6 b7 : Bool) (low middle six seven : ℕ)
-    → low ≡ number_of (b0 ∷ b1 ∷ b2 ∷ []) → middle ≡ number_of (b3 ∷ b4 ∷ b5 ∷ []) → six ≡ bit_of b6 → seven ≡ bit_of b7
-    → low + 8 * middle + 64 * (six + 2 * seven) ≡ number_of (b0 ∷ b1 ∷ b2 ∷ b3 ∷ b4 ∷ b5 ∷ b6 ∷ b7 ∷ [])
-unfolding number_of
-of_parts b0 b1 b2 b3 b4 b5 b6 b7 low middle six seven e f g h = omega (arith, e, f, g, h)
 
 abbrev belong : Cube → List Bool
 belong q = map (λ n. lt plus_zero (corner_of q n)) eight
@@ -28,6 +25,21 @@ belong q = map (λ n. lt plus_zero (corner_of q n)) eight
 pub set_below : (q : Cube) → set_of q < 256
 unfolding set_of set_by
 set_below q = number_below (belong q)
+
+-- what the code reads: the mask of eight lanes, each compared with 0
+abbrev zeros : List Float
+zeros = replicate 8 plus_zero
+
+-- the lanes of a comparison
+abbrev compared : List Float → List Float → List ℕ
+compared xs ys = zip2 (λ a b. cond (lt a b) (2 ^ 32 - 1) 0) xs ys
+
+pub read_set : (q : Cube) (xs : List Float) → xs ≡ corners q → mask_l (map (top 31) (compared zeros xs)) % 2 ^ 64 ≡ set_of q
+unfolding set_of set_by number_of corner_of value_at corners
+read_set q xs e =
+    ap (λ (ys : List Float). mask_l (map (top 31) (compared zeros ys)) % 2 ^ 64) e
+    ∙ ap (λ (ms : List Bool). mask_l ms % 2 ^ 64) (tops_compared w32 lt zeros (corners q))
+    ∙ mask_l-mod (zip2 lt zeros (corners q)) 64 (lit≤ tt)
 
 low_bit : (b : Bool) (n : ℕ) → (bit_of b + 2 * n) % 2 ≡ bit_of b
 low_bit true n = omega arith

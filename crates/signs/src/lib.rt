@@ -14,8 +14,8 @@ ghost use Rattle.signs.specs.Table.{family_at};
 ghost use Rattle.signs.specs.Front.{choice_for, front_of, refusal_in, NoneUnmatched};
 ghost use Rattle.signs.specs.Asked.{AskedRightly, HangsOnAsked};
 
-use cube::bits::{bit, three};
 use cube::{Cube, Refusal};
+use std::simd::prelude::*;
 use tilings::Counted;
 
 // A case with one of its configurations; case 0 has -1. As C has it.
@@ -38,14 +38,13 @@ pub fn family_of(set: u8) -> Family
     }
 }
 
-// The set of the corners whose values are above 0.
+// The set of the corners whose values are above 0, compared at once.
+#[inline(always)]
 pub fn corner_set(q: Cube) -> u8
     ensures { result ≡ set_of q }
 {
-    let low = three(0.0 < q.c0, 0.0 < q.c1, 0.0 < q.c2);
-    let middle = three(0.0 < q.c3, 0.0 < q.c4, 0.0 < q.c5);
-    let high = bit(0.0 < q.c6) + 2 * bit(0.0 < q.c7);
-    (low + 8 * middle + 64 * high) as u8
+    let above = f32x8::from_array(cube::values(q)).simd_gt(f32x8::splat(0.0));
+    above.to_bitmask() as u8
 }
 
 // The front: refusal 3, or the choice for the family of the cube's set.
@@ -64,6 +63,7 @@ pub fn choose_signs(q: Cube) -> Result<Counted, Refusal>
 }
 
 // The choice of a cube whose corners are finite. An inner routine for lists.
+#[inline(always)]
 pub fn choose_finite(q: Cube) -> Counted
     requires { T (all_finite q) }
     ensures choice { reached result ≡ choice_for q }
