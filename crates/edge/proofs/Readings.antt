@@ -30,7 +30,7 @@ product_tells m (fin s n e) = refl
 
 -- ---- the four ways out of `read`, by its tests: a above zero, t outside 0 and 1, the product a NaN
 module _ {A : Type 0} (x y z w : A) where
-  abbrev by_tests : Bool → Bool → Bool → A
+  abbrev pub by_tests : Bool → Bool → Bool → A
   by_tests r o n = cond r x (cond o y (cond n z w))
 
   none_holds : (r o n : Bool) → (r || o) || n ≡ false → w ≡ by_tests r o n
@@ -52,17 +52,17 @@ module _ {A : Type 0} (x y z w : A) where
 
 -- the bits of 1 and 2 are 0x3f800000 and 0x40000000
 module _ (m : Moves) (a b p : Float) (ea : a ≡ a_of f32 m.g1 m.g2 m.g3 m.g4) (eb : b ≡ b_of f32 m.u1 m.u2 m.u3 m.u4 m.g1 m.g2 m.g3 m.g4) where
-  abbrev t : Float
+  abbrev pub t : Float
   t = div binary32 (neg b) (mul binary32 (of_bits binary32 0x40000000) a)
 
-  abbrev rises : Bool
+  abbrev pub rises : Bool
   rises = lt (of_bits binary32 0) a
 
-  abbrev outside : Bool
+  abbrev pub outside : Bool
   outside = lt t (of_bits binary32 0) || lt (of_bits binary32 0x3f800000) t
 
   module _ (n : Bool) (ep : p ≡ product_of m t) (en : n ≡ is_nan p) where
-    read_by_lem : by_tests rising (beyond t) blank (crossed t p) rises outside n ≡ read_of m
+    pub read_by_lem : by_tests rising (beyond t) blank (crossed t p) rises outside n ≡ read_of m
     unfolding read_of read_by cross_by of_bits
     read_by_lem = rw (← ea, ← eb, product_tells m t, ← ep, ← en)
 

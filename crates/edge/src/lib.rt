@@ -1,6 +1,6 @@
 // The edge reading: document 01, 'Edge reading'. Public: `interior_ambiguity_verification`, which
-// refuses; for callers that have tested their cube and edge `moves_of`, the moves of an edge, and `read`, what is
-// read by them; and `a_of`, `b_of` and `place_at`, which the case-13 test needs too.
+// refuses; for callers that have tested their cube and edge `moves_of`, the moves of an edge, with `a_of`, `b_of` and
+// `place_at`, which the case-13 test needs, and `product_at`, for the interior test.
 #![tactic(auto)]
 
 ghost use Rattle.std.specs.Prelude.{◌≡◌, ◌<◌};
@@ -131,7 +131,7 @@ pub fn place_at(u: f32, g: f32, t: f32) -> f32
 }
 
 // product = w1×w3 - w2×w4, at t; the four places by name, as the definition has them
-fn product_at(m: Moves, t: f32) -> f32
+pub fn product_at(m: Moves, t: f32) -> f32
     ensures { result ≡ product_of m t }
 {
     let w1 = place_at(m.u1, m.g1, t);
@@ -142,7 +142,7 @@ fn product_at(m: Moves, t: f32) -> f32
 }
 
 // The reading of an edge's moves. The first test asks all, so that nothing is computed behind a branch.
-pub fn read(m: Moves) -> Reading
+fn read(m: Moves) -> Reading
     ensures { told result ≡ read_of m }
 {
     let a = a_of(m);

@@ -1,4 +1,3 @@
 pub mod Diagonals
 pub mod Interior
 pub mod Pick
-pub mod Settled

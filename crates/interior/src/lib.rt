@@ -5,18 +5,17 @@
 
 ghost use Rattle.std.specs.Prelude.{◌≡◌, ℕ, ◌+◌, ◌*◌, ◌≤◌, [], ◌∷◌, map, T, pos};
 ghost use Rattle.binary32.specs.Numbers.{f32};
-ghost use Rattle.edge.specs.Edge.{quotients, valued, told, is_edge};
+ghost use Rattle.edge.specs.Edge.{quotients, is_edge};
 ghost use Rattle.edge.specs.Moves.{read_of};
 ghost use Rattle.interior.specs.Pick.{IsAmbiguousFace, pick_with};
 ghost use Rattle.interior.specs.Diagonals.{diagonals_of, held_by, set_of};
-ghost use Rattle.interior.specs.Settled.{is_past, is_off, is_real};
-ghost use Rattle.interior.specs.Interior.{is_unsettled, seen_as, joined, counted, inside_of};
+ghost use Rattle.interior.specs.Interior.{seen_as, joined, counted, inside_of};
 
 mod faces;
 
 use cube::bits::{bit, three};
 use cube::{Cube, EdgeNo};
-use edge::{Moves, Reading};
+use edge::Moves;
 pub use faces::AmbiguousFace;
 use notes::Notes;
 
@@ -88,63 +87,24 @@ fn any_match(d: Diagonals) -> bool
     set_of(d) != 0
 }
 
-// Whether a reading's value is 1. This and the next two take a reading apart each for one answer: of one match over the
-// four kinds the compiler made a branch.
-fn value_of(r: Reading) -> bool
-    ensures { result ≡ valued f32 quotients (told r) }
-{
-    match r {
-        Reading::Rising | Reading::Beyond(_) => true,
-        Reading::Crossed(_, product) => product < 0.0,
-        Reading::Blank => false,
-    }
-}
-
-// Whether a reading is rising or beyond.
-fn is_past(r: Reading) -> bool
-    ensures { result ≡ is_past (told r) }
-{
-    matches!(r, Reading::Rising | Reading::Beyond(_))
-}
-
-// Whether a reading is crossed with a product below or above zero.
-fn is_off(r: Reading) -> bool
-    ensures { result ≡ is_off (told r) }
-{
-    match r {
-        Reading::Crossed(_, product) => (product < 0.0) | (product > 0.0),
-        _ => false,
-    }
-}
-
-// Whether a reading is unsettled: crossed with product zero, or blank. Asked by the two tests of what is settled, since
-// the compiler makes one comparison of them for the zero and the NaN.
-#[tactic(auto, using(crate::proofs::Settled::neither_test))]
-fn is_unsettled(r: Reading) -> bool
-    requires { T (is_real (told r)) }
-    ensures { result ≡ is_unsettled f32 quotients (told r) }
-{
-    !(is_past(r) | is_off(r))
-}
-
-// What a reading says: whether its value is 1, and what it and the pick of its edge count.
-#[tactic(auto, unfolding(crate::specs::Interior::seen_as))]
-fn sight_of(r: Reading, matched: bool) -> Sight
-    requires { T (is_real (told r)) }
-    ensures { result ≡ seen_as f32 quotients matched (told r) }
-{
-    Sight {
-        hit: value_of(r),
-        notes: notes::look(is_unsettled(r), matched),
-    }
-}
-
-// What is read by the moves of an edge, and whether a pair matched where the edge was picked.
-#[tactic(auto, using(crate::proofs::Settled::told_by_moves))]
+// What is read by the moves of an edge, and whether a pair matched where the edge was picked: whether the reading's value
+// is 1, and what it and the pick count. By a, t and the product themselves: of an `edge::Reading`, made and taken apart,
+// the compiler put the product behind a branch, which case 4 mispredicted 0.4 times a choice.
 fn look(m: Moves, matched: bool) -> Sight
     ensures { result ≡ seen_as f32 quotients matched (read_of m) }
 {
-    sight_of(edge::read(m), matched)
+    let a = edge::a_of(m);
+    let t = -edge::b_of(m) / (2.0 * a);
+    let product = edge::product_at(m, t);
+    let rising = a > 0.0;
+    let beyond = (t < 0.0) | (t > 1.0);
+    let past = rising | beyond;
+    let below = product < 0.0;
+    let settled = past | below | (product > 0.0);
+    Sight {
+        hit: past | below,
+        notes: notes::look(!settled, matched),
+    }
 }
 
 // Two sights as one: true if any, the counts added.
