@@ -17,7 +17,7 @@ use Rattle.cube.specs.Bits.{bit_of, number_of}
 use Rattle.cube.specs.Corners.{corners, value_at, corner_of}
 use Rattle.cube.proofs.Bounds.{number_below}
 use Rattle.cube.proofs.Table.{agree}
-use Rattle.signs.specs.Sets.{eight, bit, set_by, set_of}
+use Rattle.signs.specs.Sets.{eight, bit, set_by, set_of, BitsBelong}
 
 abbrev belong : Cube → List Bool
 belong q = map (λ n. lt plus_zero (corner_of q n)) eight
@@ -50,7 +50,7 @@ halved true n = omega arith
 halved false n = omega arith
 
 -- the answers of a number are read back
-pub bit_at : (bs : List Bool) (n : ℕ) → bit (number_of bs) n ≡ bit_of (get_or bs n false)
+bit_at : (bs : List Bool) (n : ℕ) → bit (number_of bs) n ≡ bit_of (get_or bs n false)
 unfolding number_of
 bit_at [] n = ap (λ (k : ℕ). k % 2) (zero-div (2 ^ n))
 bit_at (b ∷ bs) zero = ap (λ (k : ℕ). k % 2) (div-one (bit_of b + 2 * number_of bs)) ∙ low_bit b (number_of bs)
@@ -58,6 +58,9 @@ bit_at (b ∷ bs) (suc n) =
     let m = bit_of b + 2 * number_of bs in
     ap (λ (k : ℕ). m / k % 2) (pow-succ' 2 n) ∙ ap (λ (k : ℕ). k % 2) (sym (div-div-eq-div-mul m 2 (2 ^ n))) ∙ ap (λ (k : ℕ). k / 2 ^ n % 2) (halved b (number_of bs)) ∙ bit_at bs n
 
-pub belongs_at : (q : Cube) (n : ℕ) → n < 8 → bit (set_of q) n ≡ bit_of (lt plus_zero (corner_of q n))
+belongs_at : (q : Cube) → BitsBelong q (set_of q)
 unfolding set_of set_by
 belongs_at q n h = bit_at (belong q) n ∙ ap bit_of (agree (λ k. get_or (belong q) k false) (λ k. lt plus_zero (corner_of q k)) 8 refl n h)
+
+pub bits_belong : (q : Cube) (set : ℕ) → set ≡ set_of q → BitsBelong q set
+bits_belong q set e n h = ap (λ (s : ℕ). bit s n) e ∙ belongs_at q n h

@@ -1,8 +1,9 @@
 -- Document 02, 'Change 1': the corner set of a cube, over any kind of number. Definitions only.
-use Rattle.std.specs.Prelude.{ℕ, ◌/◌, ◌%◌, ◌^◌, List, [], ◌∷◌, map, sum_by}
-use Rattle.binary32.specs.Numbers.{Numbers, f32}
+use Rattle.std.specs.Prelude.{ℕ, ◌/◌, ◌%◌, ◌^◌, ◌<◌, ◌≡◌, List, [], ◌∷◌, map, sum_by}
+use Rattle.std.specs.Float.Ieee.{lt}
+use Rattle.binary32.specs.Numbers.{Numbers, f32, plus_zero}
 use Rattle.cube.specs.declared.Cube.{Cube}
-use Rattle.cube.specs.Bits.{number_of}
+use Rattle.cube.specs.Bits.{bit_of, number_of}
 use Rattle.cube.specs.Corners.{corner_of}
 
 abbrev pub eight : List ℕ
@@ -25,3 +26,7 @@ module _ (K : Numbers) where
 
 unfoldable pub set_of : Cube → ℕ
 set_of q = set_by f32 (corner_of q)
+
+-- bit n of a set is 1 where corner n's value is above 0, and 0 elsewhere
+abbrev pub BitsBelong : Cube → ℕ → Type 0
+BitsBelong q set = (n : ℕ) → n < 8 → bit set n ≡ bit_of (lt plus_zero (corner_of q n))

@@ -8,7 +8,7 @@ ghost use Rattle.std.specs.Prelude.{◌≡◌, cond, ◌≤◌, T};
 ghost use Rattle.cube.specs.Corners.{all_finite};
 ghost use Rattle.choice.specs.Choice.{said};
 ghost use Rattle.tilings.specs.Answers.{reached};
-ghost use Rattle.signs.specs.Sets.{set_of};
+ghost use Rattle.signs.specs.Sets.{set_of, BitsBelong};
 ghost use Rattle.signs.specs.Rule.{family_of};
 ghost use Rattle.signs.specs.Table.{family_at};
 ghost use Rattle.signs.specs.Front.{choice_for, front_of, refusal_in, NoneUnmatched};
@@ -41,7 +41,8 @@ pub fn family_of(set: u8) -> Family
 // The set of the corners whose values are above 0, compared at once.
 #[inline(always)]
 pub fn corner_set(q: Cube) -> u8
-    ensures { result ≡ set_of q }
+    ensures set { result ≡ set_of q }
+    ensures bits { BitsBelong q result }
 {
     let above = f32x8::from_array(cube::values(q)).simd_gt(f32x8::splat(0.0));
     above.to_bitmask() as u8
