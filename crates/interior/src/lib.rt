@@ -87,9 +87,9 @@ fn any_match(d: Diagonals) -> bool
     set_of(d) != 0
 }
 
-// What is read by the moves of an edge, and whether a pair matched where the edge was picked: whether the reading's value
-// is 1, and what it and the pick count. By a, t and the product themselves: of an `edge::Reading`, made and taken apart,
-// the compiler put the product behind a branch, which case 4 mispredicted 0.4 times a choice.
+// What is read by the moves of an edge, and whether a pair matched where the edge was picked: whether the reading's
+// value is 1, and what it and the pick count. By a, t and the product themselves: of an `edge::Reading`, made and taken
+// apart, the compiler put the product behind a branch, which case 4 mispredicted 0.4 times a choice.
 fn look(m: Moves, matched: bool) -> Sight
     ensures { result ≡ seen_as f32 quotients matched (read_of m) }
 {

@@ -16,11 +16,10 @@ use Rattle.family_13.specs.Tables.{TEST_13, SUB_CONFIG_13}
 use Rattle.family_13.specs.Plans.{parts13, last_from, tile13, part13, plan13}
 use Rattle.families.specs.Tables.{TEST_3, TEST_4, TEST_6, TEST_7}
 use Rattle.families.specs.Plans.{plan3, plan4, plan6, part7, plan7, plans, plan_of}
-use Rattle.choice.specs.Choice.{nat_of}
 use Rattle.signs.specs.declared.Family.{Family}
 use Rattle.signs.specs.Rule.{family_of}
 use Rattle.signs.specs.Table.{families, family_at}
-use Rattle.signs.specs.Asked.{asked, alternates_in, times, signed_by, AskedRightly}
+use Rattle.signs.specs.Asked.{asked, plan_by, alternates_in, times, signed_by, AskedRightly}
 use Rattle.signs.proofs.Ruled.{by_rule}
 
 -- whatever is answered, `holds` is true of the faces tested on the way
@@ -57,9 +56,6 @@ signed set ns = foldr ◌&&◌ true (map (signed_by set) ns)
 
 abbrev rightly : ℕ → List ℤ → Bool
 rightly set ns = all_under 7 (once_at set ns) && signed set ns
-
-abbrev plan_by : Family → Plan
-plan_by f = plan_of (nat_of f.case) (nat_of f.configuration)
 
 abbrev set_rightly : ℕ → Bool
 set_rightly set = every_path (rightly set) (plan_by (family_at set))

@@ -2,7 +2,7 @@
 -- for some sets. Assumes nothing.
 use mathlib.Core.Path.{◌≡◌, refl}
 use mathlib.Core.Bool.{Bool, true, false, ◌&&◌}
-use mathlib.Core.List.{List, [], ◌∷◌, map, foldr}
+use mathlib.Core.List.{List, [], ◌∷◌, map, foldr, ◌++◌}
 use Prim.Native.Nat.{ℕ, zero, suc, ◌+◌, ◌*◌}
 use lib.Dec.{eqb}
 use lib.IntN.{ℤ, pos, negsuc}
@@ -14,24 +14,26 @@ use Rattle.cube.specs.Corners.{corners, value_at, corner_of, cube}
 use Rattle.face.specs.Face.{face_corners, face_corner}
 use Rattle.notes.specs.Notes.{no_notes}
 use Rattle.tilings.specs.Tilings.{configurations, is_one_of}
-use Rattle.tilings.specs.Plan.{ask_in_turn, Answers, settled, run}
+use Rattle.tilings.specs.Plan.{ask_in_turn, Answers, settled, run, reach, empty}
 use Rattle.two_faces.specs.Tables.{TEST_12}
 use Rattle.two_faces.specs.Plans.{two_faces, plan12}
 use Rattle.family_13.specs.Tables.{TEST_13, SUB_CONFIG_13}
 use Rattle.family_13.specs.Plans.{parts13, last_from, tile13, part13, plan13}
 use Rattle.families.specs.Tables.{TEST_3, TEST_6, TEST_4}
 use Rattle.families.specs.Plans.{plan3, plan6, plans, plan_of, plan4}
-use Rattle.choice.specs.Choice.{nat_of, choice_of}
+use Rattle.choice.specs.Choice as Choice
+use Rattle.choice.specs.Choice.{choice_of, Said, refused}
 use Rattle.cube.specs.declared.Cube.{Cube}
 use Rattle.edge.specs.Edge.{moves, move_of, cross_by, read_by, edge_by}
 use Rattle.interior.specs.Pick.{diagonals, last_match, any_match, pick_with, pick_by}
 use Rattle.interior.specs.Interior.{joined, seen_as, look_at, inside_by, inside_of}
 use Rattle.signs.specs.declared.Family.{Family}
+use Rattle.signs.specs.Front.{refusal_in, unmatched_in, no_zeros}
 use Rattle.signs.specs.Sets.{eight, size_of, set_by, set_of}
 use Rattle.signs.specs.Rotations.{offsets, ways, is_rotation, rotations}
 use Rattle.signs.specs.Rule.{firsts, made, choose, in_order, rows}
 use Rattle.signs.specs.Table.{families, family_at}
-use Rattle.signs.specs.Asked.{asked, alternates_in}
+use Rattle.signs.specs.Asked.{asked, alternates_in, plan_by, signed_by}
 
 -- ---- rotations, each by where it brings corners 0 to 7, as one number
 octal : List ℕ → ℕ
@@ -147,7 +149,7 @@ abbrev answered : Bool → Answers
 answered b = record { faces = λ n. b; insides = λ ns s. record { hit = b; notes = no_notes }; insides13 = b }
 
 abbrev asked_for : Bool → ℕ → List ℤ
-asked_for b set = let f = family_at set in asked (answered b) (plan_of (nat_of f.case) (nat_of f.configuration))
+asked_for b set = asked (answered b) (plan_by (family_at set))
 
 -- sets 5 and 250, case 3 (TEST_3, rows 0 and 23), 21 and 234, case 6 (TEST_6, rows 2 and 45), 30, case 12 (TEST_12, row 12), 165, case 13 (TEST_13, row 0), and set 1, which asks nothing
 tested : map (asked_for true) (5 ∷ 250 ∷ 21 ∷ 234 ∷ 30 ∷ 165 ∷ 1 ∷ [])
@@ -190,3 +192,21 @@ chosen_for q f = (choice_of f.case f.configuration q).notes.unmatched
 zeros_unmatched : chosen_for zeros (family_at (set_of zeros)) ≡ 3
 unfolding zeros set_of set_by families family_at choice_of run settled plan_of plans plan4 TEST_4 inside_of inside_by joined look_at seen_as pick_by pick_with last_match any_match diagonals edge_by read_by cross_by move_of moves corner_of value_at corners of_bits neg add sub mul div lt eq le is_nan of_int number_of
 zeros_unmatched = refl
+
+-- ---- what the front's laws read
+-- the least values on both sides of 0 are no zeros, a zero of either sign is one
+zeros_told : map no_zeros (cube 1 0x80000001 1 1 1 1 1 0x3f800000 ∷ cube 1 1 1 0 1 1 1 1 ∷ cube 1 1 1 1 1 1 1 0x80000000 ∷ []) ≡ true ∷ false ∷ false ∷ []
+unfolding no_zeros corners of_bits eq
+zeros_told = refl
+
+answers : List Said
+answers = Choice.made (reach empty (record { unsettled = 1; unmatched = 2; readings = 4 })) ∷ refused 3 ∷ []
+
+answers_told : map refusal_in answers ++ map unmatched_in answers ≡ 0 ∷ 3 ∷ 2 ∷ 0 ∷ []
+unfolding answers
+answers_told = refl
+
+-- the sign: above 0 up to four corners, below from five on; 0 and 7 are no faces
+signs_told : map (signed_by 5) (pos 5 ∷ negsuc 4 ∷ pos 0 ∷ pos 7 ∷ []) ++ map (signed_by 30) (pos 4 ∷ negsuc 3 ∷ []) ++ map (signed_by 250) (pos 5 ∷ negsuc 4 ∷ [])
+    ≡ true ∷ false ∷ false ∷ false ∷ true ∷ false ∷ false ∷ true ∷ []
+signs_told = refl

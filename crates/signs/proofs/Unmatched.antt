@@ -32,13 +32,14 @@ use Rattle.family_13.specs.Tables.{TEST_13, SUB_CONFIG_13}
 use Rattle.family_13.specs.Plans.{parts13, last_from, tile13, part13, plan13}
 use Rattle.families.specs.Tables.{TEST_3, TEST_4, TEST_6, TEST_7}
 use Rattle.families.specs.Plans.{plan3, plan4, plan6, part7, plan7, plans, plan_of}
-use Rattle.choice.specs.Choice.{nat_of, choice_of, made}
+use Rattle.choice.specs.Choice.{choice_of, made}
 use Rattle.choice.proofs.Ranges.{either}
 use Rattle.signs.specs.declared.Family.{Family}
 use Rattle.signs.specs.Sets.{eight, set_by, set_of}
 use Rattle.signs.specs.Rule.{family_of}
 use Rattle.signs.specs.Table.{families, family_at}
 use Rattle.signs.specs.Front.{choice_for, no_zeros, NoneUnmatched}
+use Rattle.signs.specs.Asked.{plan_by}
 use Rattle.signs.proofs.Ruled.{by_rule}
 use Rattle.signs.proofs.Signed.{by_7, by_minus_7}
 
@@ -80,21 +81,18 @@ at_each (suc n) p t (true ∷ bs) e = at_each n (λ cs. p (true ∷ cs)) (and_l 
 at_each (suc n) p t (false ∷ bs) e = at_each n (λ cs. p (false ∷ cs)) (and_r (every n (λ cs. p (true ∷ cs))) (every n (λ cs. p (false ∷ cs))) t) bs (omega (arith, e))
 
 -- ---- all sets, with the table's families: the rule is slow to compute with
-abbrev plan_at : Family → Plan
-plan_at f = plan_of (nat_of f.case) (nat_of f.configuration)
-
 in_table : List Bool → Bool
-in_table bs = always_has bs (plan_at (family_at (number_of bs)))
+in_table bs = always_has bs (plan_by (family_at (number_of bs)))
 
 all_in_table : T (every 8 in_table)
 unfolding in_table number_of always_has has_diagonal any_match families family_at plan_of plans plan3 plan4 plan6 part7 plan7 two_faces plan10 plan12 parts13 last_from tile13 part13 plan13 ask_in_turn TEST_3 TEST_4 TEST_6 TEST_7 TEST_10 TEST_12 TEST_13 SUB_CONFIG_13
 all_in_table = tt
 
-by_family : (bs : List Bool) → length bs ≡ 8 → T (always_has bs (plan_at (family_of (number_of bs))))
+by_family : (bs : List Bool) → length bs ≡ 8 → T (always_has bs (plan_by (family_of (number_of bs))))
 unfolding in_table
 by_family bs e =
     let small : number_of bs < 256 = subst (λ (n : ℕ). number_of bs < 2 ^ n) e (number_below bs) in
-    subst (λ (f : Family). T (always_has bs (plan_at f))) (by_rule (number_of bs) small) (at_each 8 in_table all_in_table bs e)
+    subst (λ (f : Family). T (always_has bs (plan_by f))) (by_rule (number_of bs) small) (at_each 8 in_table all_in_table bs e)
 
 -- ---- where a plan is followed
 by_test : (m : Notes) → m.unmatched ≡ 0 → (tested m).unmatched ≡ 0
@@ -206,7 +204,7 @@ module _ (q : Cube) (real : T (all_finite q)) (fit : T (all_fit q)) (clear : T (
 
   none_in_choice : (choice_of (family_of (set_of q)).case (family_of (set_of q)).configuration q).notes.unmatched ≡ 0
   unfolding choice_of set_of set_by
-  none_in_choice = none_in (answers_of q) (members q) none_at_test (plan_at (family_of (set_of q))) no_notes refl (by_family (members q) refl)
+  none_in_choice = none_in (answers_of q) (members q) none_at_test (plan_by (family_of (set_of q))) no_notes refl (by_family (members q) refl)
 
 -- ---- the front, b being what the code has found of the corners
 pub none_chosen : (q : Cube) → T (all_fit q) → (b : Bool) → b ≡ all_finite q → b ≡ true → (r : Reached) → r ≡ choice_for q → NoneUnmatched q (made r)

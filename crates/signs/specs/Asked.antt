@@ -7,6 +7,7 @@ use Rattle.notes.specs.declared.Notes.{Notes}
 use Rattle.tilings.specs.Plan.{Plan, nothing, untiled, tile, ask, face, inside, inside13, Answers, run}
 use Rattle.families.specs.Plans.{plan_of}
 use Rattle.choice.specs.Choice.{nat_of}
+use Rattle.signs.specs.declared.Family.{Family}
 use Rattle.signs.specs.Sets.{bit, size_of}
 use Rattle.signs.specs.Rule.{family_of}
 
@@ -19,9 +20,12 @@ asked w (ask (face n) p r) = n ∷ cond (w.faces n) (asked w p) (asked w r)
 asked w (ask (inside ns s) p r) = cond (w.insides ns s).hit (asked w p) (asked w r)
 asked w (ask inside13 p r) = cond w.insides13 (asked w p) (asked w r)
 
--- the plan of a set's row
+-- the plan of a family, and of a set's row
+abbrev pub plan_by : Family → Plan
+plan_by f = plan_of (nat_of f.case) (nat_of f.configuration)
+
 abbrev pub plan_for : ℕ → Plan
-plan_for set = let f = family_of set in plan_of (nat_of f.case) (nat_of f.configuration)
+plan_for set = plan_by (family_of set)
 
 -- along face n the corners belong and do not, by turns
 unfoldable pub alternates_in : ℕ → ℕ → Bool

@@ -1,5 +1,5 @@
 // The family from the signs: document 02, 'Change 1'. Public: `corner_set` and `family_of`, which find case and
-// configuration, and the front `choose_signs`, a cube to a choice; for lists `choose_finite`, its half past the refusal.
+// configuration, and the front `choose_signs`, a cube to a choice; for lists `choose_finite`, which refuses nothing.
 #![tactic(auto)]
 
 mod table;
