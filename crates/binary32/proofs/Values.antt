@@ -86,7 +86,7 @@ normal_value s x t h =
 -- ---- which whole numbers are values: those of at most 24 digits, times a power of two
 
 -- what `fits` says of a value that is not 0
-fits_says : (s : Bool) (m : ℕ) (e : ℤ) → T (fits binary32 (fin s (suc m) e)) → (suc m < 2 ^ 24) × (down e ≤ 2 ^ 149) × (suc m * up e < 2 ^ 128 * down e)
+pub fits_says : (s : Bool) (m : ℕ) (e : ℤ) → T (fits binary32 (fin s (suc m) e)) → (suc m < 2 ^ 24) × (down e ≤ 2 ^ 149) × (suc m * up e < 2 ^ 128 * down e)
 unfolding fits
 fits_says s m e t =
     let a : Bool = eqb (suc m % 2) 1 in

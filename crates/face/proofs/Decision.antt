@@ -15,12 +15,14 @@ use lib.Ieee.Exact.{HasValue}
 use lib.Ieee.Order.{round_mono}
 use lib.Ieee.Scale.{finite}
 use lib.Ieee.Positive.{positive, above, above_of_le, between, mul_mono}
+use Rattle.std.proofs.lemmas.Float.{lt_irrefl, lt_of_le_of_lt}
 use Rattle.binary32.specs.Numbers.{f32, magnitude, epsilon}
+use Rattle.binary32.specs.Range.{least, most, in_range}
 use Rattle.binary32.proofs.Bools.{either, four}
 use Rattle.binary32.proofs.Magnitudes.{sgn, round_told, magnitude_mul, sgn_mul, mul_comm_float, sign_test, le_mul, not_less, above_real, positive_above, plain, Swapped, sub_swapped}
 use Rattle.binary32.proofs.Same.{Same, same_refl, mul_same}
 use Rattle.face.specs.Face.{rule, is_face, is_positive}
-use Rattle.face.specs.Laws.{least, most, in_range, up_and_down, alternate}
+use Rattle.face.specs.Laws.{up_and_down, alternate}
 
 abbrev one : Float
 one = fin false 1 (pos 0)
@@ -30,7 +32,7 @@ pub record Ranged (s : Bool) (x : Float) : Type 0 where
   pub size : T (in_range (magnitude x))
   pub sign : sgn x ≡ s
 
-low_end : (x : Float) → T (in_range x) → T (le least x)
+pub low_end : (x : Float) → T (in_range x) → T (le least x)
 unfolding in_range
 low_end x t = and_l (le least x) (le x most) t
 
@@ -38,11 +40,11 @@ high_end : (x : Float) → T (in_range x) → T (le x most)
 unfolding in_range
 high_end x t = and_r (le least x) (le x most) t
 
-least_positive : T (positive least)
+pub least_positive : T (positive least)
 unfolding of_bits
 least_positive = tt
 
-in_range_positive : (x : Float) → T (in_range x) → T (positive x)
+pub in_range_positive : (x : Float) → T (in_range x) → T (positive x)
 in_range_positive x t = between least x most least_positive tt (low_end x t) (high_end x t)
 
 up : (x : Float) → T (in_range x) → Ranged false x
@@ -83,7 +85,7 @@ alike : (s : Bool) → unlike s s ≡ false
 alike true = refl
 alike false = refl
 
-product : {s : Bool} {x y : Float} → Ranged s x → Ranged s y → T (positive (mul binary32 x y))
+pub product : {s : Bool} {x y : Float} → Ranged s x → Ranged s y → T (positive (mul binary32 x y))
 product {s} {x} {y} r q =
     let p : T (positive (magnitude (mul binary32 x y))) = subst (λ (z : Float). T (positive z)) (sym (magnitude_mul binary32 x y)) (sizes_product (magnitude x) (magnitude y) r.size q.size) in
     plain (mul binary32 x y) p (sgn_mul binary32 x y (above_real (mul binary32 x y) (positive_above (magnitude (mul binary32 x y)) p)) ∙ (λ i. unlike (r.sign i) (q.sign i)) ∙ alike s)
@@ -124,6 +126,15 @@ tied v = lt (magnitude v) epsilon
 
 pub kept : Float → Float → Float → Float → Bool
 kept a b c d = cond (tied (val a b c d)) true (not (unlike (sgn a) (sgn (val a b c d))))
+
+-- at 2 ^ -23 and above there is no tie
+pub kept_untied : (a b c d : Float) → T (le epsilon (magnitude (val a b c d))) → kept a b c d ≡ not (unlike (sgn a) (sgn (val a b c d)))
+unfolding kept
+kept_untied a b c d t = ap (λ (x : Bool). cond x true (not (unlike (sgn a) (sgn (val a b c d))))) (no_less (tied (val a b c d)) λ u. lt_irrefl epsilon (lt_of_le_of_lt epsilon (magnitude (val a b c d)) epsilon t u))
+  where
+    no_less : (x : Bool) → (T x → ⊥) → x ≡ false
+    no_less true h = absurd (h tt)
+    no_less false h = refl
 
 -- a face number as a float: its sign, that it is 1 at least, and that it is finite
 pub record Number (x : Float) (s : Bool) : Type 0 where

@@ -1,6 +1,8 @@
 pub mod Columns
 mod Controls
 pub mod Decision
+mod Differences
 pub mod Laws
 pub mod Places
+pub mod TrueJoin
 mod Ties

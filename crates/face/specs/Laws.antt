@@ -1,22 +1,12 @@
 -- What the face test promises beside its rule (document 01, 'Places and their forms': exact tie, sign symmetry between cubes, NaN). Definitions only.
-use Rattle.std.specs.Prelude.{◌≡◌, Bool, false, not, ◌&&◌, ◌||◌, T, ℤ, pos, neg_ℤ, Float}
-use Rattle.std.specs.Float.{nan, fin, binary32}
-use Rattle.std.specs.Float.Ieee.{of_bits, neg, sub, mul, lt, le}
+use Rattle.std.specs.Prelude.{◌≡◌, Bool, false, not, ◌&&◌, ◌||◌, T, ℤ, neg_ℤ, Float}
+use Rattle.std.specs.Float.{nan, binary32}
+use Rattle.std.specs.Float.Ieee.{neg, sub, mul, lt}
 use Rattle.binary32.specs.Numbers.{f32, magnitude, epsilon}
+use Rattle.binary32.specs.Range.{in_range}
 use Rattle.cube.specs.declared.Cube.{Cube}
 use Rattle.cube.specs.Corners.{corner_of}
 use Rattle.face.specs.Face.{face_corner, is_positive, is_face, rule, Said, answer, refused}
-
--- 1e-6 as an f32
-abbrev pub least : Float
-least = of_bits binary32 0x358637bd
-
--- 2 ^ 63
-abbrev pub most : Float
-most = fin false 1 (pos 63)
-
-unfoldable pub in_range : Float → Bool
-in_range x = le least x && le x most
 
 -- a and c are above zero and b and d below, each magnitude in the range
 unfoldable pub up_and_down : Float → Float → Float → Float → Bool

@@ -1,3 +1,4 @@
 pub mod Columns
 pub mod Face
 pub mod Laws
+pub mod TrueJoin

@@ -6,10 +6,13 @@
 ghost use Rattle.std.specs.Prelude.{◌≡◌, ◌<◌, nat_abs};
 ghost use Rattle.std.specs.List.{All};
 ghost use Rattle.binary32.specs.Numbers.{f32};
+ghost use Rattle.binary32.specs.Wholes.{EachIsWhole};
 ghost use Rattle.face.specs.Face.{rule, face_of, said, test_face_of};
 ghost use Rattle.face.specs.Columns.{place_of, row_of, square_of};
-ghost use Rattle.face.specs.Laws.{FaceLawsAt, FaceLawsOf};
+ghost use Rattle.face.specs.Laws.{up_and_down, alternate, FaceLawsAt, FaceLawsOf};
+ghost use Rattle.face.specs.TrueJoin.{TrueJoinAt, NoTieIsTrueAt, OfAnswer};
 
+use binary32::in_range;
 use cube::{Cube, Face, Refusal};
 
 // The values at the corners of a face, in the face's order.
@@ -84,20 +87,41 @@ pub fn square_of(q: Cube, face: Face) -> Square
     }
 }
 
+// Four values, as in the definition, since `alternates` asks in two orders.
+#[tactic(auto, unfolding(crate::specs::Laws::up_and_down))]
+fn up_and_down(a: f32, b: f32, c: f32, d: f32) -> bool
+    ensures { result ≡ up_and_down a b c d }
+{
+    in_range(a) & in_range(-b) & in_range(c) & in_range(-d)
+}
+
+#[tactic(auto, unfolding(crate::specs::Laws::alternate))]
+pub fn alternates(s: Square) -> bool
+    ensures { result ≡ alternate s.a s.b s.c s.d }
+{
+    up_and_down(s.a, s.b, s.c, s.d) | up_and_down(s.b, s.a, s.d, s.c)
+}
+
 // The rule's answer. A number that is no face is given corner 0 four times.
-#[tactic(auto, using(crate::proofs::Laws::face_laws), unfolding(crate::specs::Face::face_of, crate::specs::Face::face_by))]
+#[tactic(auto, using(crate::proofs::Laws::face_laws, crate::proofs::TrueJoin::true_join_at, crate::proofs::TrueJoin::no_tie_at, binary32::proofs::Wholes::each_is_whole), unfolding(crate::specs::Face::face_of, crate::specs::Face::face_by))]
 pub fn face_answer(q: Cube, face: Face) -> bool
     ensures answer { result ≡ face_of q face.0 }
     ensures laws { FaceLawsAt q face.0 result }
+    ensures true_join { TrueJoinAt q face.0 result }
+    ensures no_tie { NoTieIsTrueAt q face.0 result }
+    ensures wholes { EachIsWhole }
 {
     join(face, square_of(q, face))
 }
 
 // The face test: refusal 4 where the number is no face, 3 where a corner is not finite, or the answer.
-#[tactic(auto, using(crate::proofs::Places::by_no_face, crate::proofs::Places::by_not_finite, crate::proofs::Places::by_answer))]
+#[tactic(auto, using(crate::proofs::Places::by_no_face, crate::proofs::Places::by_not_finite, crate::proofs::Places::by_answer, binary32::proofs::Wholes::each_is_whole))]
 pub fn test_face(q: Cube, face: Face) -> Result<bool, Refusal>
     ensures answer { said result ≡ test_face_of q face.0 }
     ensures laws { FaceLawsOf q face.0 (said result) }
+    ensures true_join { OfAnswer (TrueJoinAt q face.0) (said result) }
+    ensures no_tie { OfAnswer (NoTieIsTrueAt q face.0) (said result) }
+    ensures wholes { EachIsWhole }
 {
     if place(face).is_none() {
         return Err(Refusal::NoFace);

@@ -9,7 +9,8 @@ use lib.Ieee.{of_bits, neg, sub, mul, lt, eq, le, of_int}
 use Rattle.cube.specs.declared.Cube.{Cube}
 use Rattle.cube.specs.Corners.{corners, value_at, corner_of, all_finite, cube}
 use Rattle.face.specs.Face.{face_corners, face_corner, rule, face_by, face_of}
-use Rattle.face.specs.Laws.{in_range, up_and_down, alternate}
+use Rattle.binary32.specs.Range.{in_range}
+use Rattle.face.specs.Laws.{up_and_down, alternate}
 use Rattle.meeting.specs.Meeting.{same_values, meet_at, meet, alternate_at, joined, compared_of, Said, equal, apart}
 
 -- the values a, b, c, d at the first one's face and at the paired corners of the other, with 3 and -100 off the face

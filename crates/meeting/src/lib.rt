@@ -3,33 +3,10 @@
 
 ghost use Rattle.std.specs.Prelude.{◌≡◌};
 ghost use Rattle.face.specs.Face.{is_face};
-ghost use Rattle.face.specs.Laws.{in_range, up_and_down, alternate};
 ghost use Rattle.meeting.specs.Meeting.{meet, joined, said, compared_of, AgreeBySign, FacesAgree};
 
 use cube::{Cube, Face, Refusal};
-use face::{Square, face_answer, place, size, square_of};
-
-// From 1e-6 to 2^63.
-fn ranged(x: f32) -> bool
-    ensures { result ≡ in_range x }
-{
-    (0.000001 <= x) & (x <= 9223372036854775808.0)
-}
-
-// Four values, as in the definition, since `alternates` asks in two orders.
-#[tactic(auto, unfolding(face::specs::Laws::up_and_down))]
-fn up_and_down(a: f32, b: f32, c: f32, d: f32) -> bool
-    ensures { result ≡ up_and_down a b c d }
-{
-    ranged(a) & ranged(-b) & ranged(c) & ranged(-d)
-}
-
-#[tactic(auto, unfolding(face::specs::Laws::alternate))]
-fn alternates(s: Square) -> bool
-    ensures { result ≡ alternate s.a s.b s.c s.d }
-{
-    up_and_down(s.a, s.b, s.c, s.d) | up_and_down(s.b, s.a, s.d, s.c)
-}
+use face::{alternates, face_answer, place, size, square_of};
 
 // Whether face `n` of k, one of 1, 2 and 5, meets face `p` of l with equal values at paired corners.
 #[tactic(auto, using(crate::proofs::Meetings::by_one, crate::proofs::Meetings::by_two, crate::proofs::Meetings::by_five, crate::proofs::Meetings::by_none))]
