@@ -20,6 +20,7 @@ use Rattle.std.proofs.lemmas.Bool.{cases_lt}
 use Rattle.binary32.specs.Numbers.{magnitude, epsilon}
 use Rattle.binary32.proofs.Finite.{round_nought}
 use Rattle.binary32.proofs.Magnitudes.{sgn, round_told}
+use Rattle.binary32.proofs.Wholes.{ltb_times}
 use Rattle.binary32.proofs.Rounding.{Within, rounded_near}
 use Rattle.face.specs.TrueJoin.{parts_of_one, parts_of_sum}
 
@@ -27,14 +28,7 @@ use Rattle.face.specs.TrueJoin.{parts_of_one, parts_of_sum}
 -- a * L = g * c and b * L = h * c: a / c and b / c are g / L and h / L
 module _ (a b c g h L : ℕ) (C : 0 < c) (P : 0 < L) (p : a * L ≡ g * c) (q : b * L ≡ h * c) where
   same_order : ltb a b ≡ ltb g h
-  same_order = elim (cases_lt a b) [
-    | inl l ↦
-        let k : g * c < h * c = subst (λ (z : ℕ). z < h * c) p (subst (λ (z : ℕ). a * L < z) q (mul-lt-mul_of_pos_right l P)) in
-        lt-ltb a b l ∙ sym (lt-ltb g h (lt_of_mul-lt-mul_right c k))
-    | inr l ↦
-        let k : h * c ≤ g * c = le_trans (le_of_eq (sym q)) (le_trans (mul-le-mul_right L l) (le_of_eq p)) in
-        le-ltb a b l ∙ sym (le-ltb g h (le_of_mul-le-mul_right k C))
-  ]
+  same_order = sym (ltb_times a b L P) ∙ (λ i. ltb (p i) (q i)) ∙ ltb_times g h c C
 
   same_rest : (b - a) * L ≡ (h - g) * c
   same_rest = mul_comm (b - a) L ∙ mul-sub L b a ∙ (λ i. mul_comm L b i - mul_comm L a i) ∙ (λ i. q i - p i) ∙ (λ i. mul_comm h c i - mul_comm g c i) ∙ sym (mul-sub c h g) ∙ mul_comm c (h - g)

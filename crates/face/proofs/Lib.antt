@@ -1,7 +1,7 @@
 pub mod Columns
 mod Controls
 pub mod Decision
-mod Differences
+pub mod Differences
 pub mod Laws
 pub mod Places
 pub mod TrueJoin

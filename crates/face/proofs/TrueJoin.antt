@@ -85,7 +85,7 @@ above_least k X x t h =
     omega arith
 
 -- its exact size, over 2 ^ k × 2 ^ k
-abbrev sizes : ℤ → ℤ → ℕ
+abbrev pub sizes : ℤ → ℤ → ℕ
 sizes X Y = nat_abs X * nat_abs Y
 
 abbrev over : ℕ → ℕ
@@ -137,16 +137,16 @@ module _ (k : ℕ) (a b c d : Float) (A B C D : ℤ) {s : Bool} (q : Square s a 
   val_is : val a b c d ≡ change P Q W first second
   val_is = λ i. sub binary32 (product_is k A C q.at_a q.at_c o.at_a o.at_c i) (product_is k B D q.at_b q.at_d o.at_b o.at_d i)
 
-  ac : A *ℤ C ≡ pos P
+  pub ac : A *ℤ C ≡ pos P
   ac = alike A C (sign_is k A q.at_a o.at_a ∙ sym (sign_is k C q.at_c o.at_c))
 
-  bd : B *ℤ D ≡ pos Q
+  pub bd : B *ℤ D ≡ pos Q
   bd = alike B D (sign_is k B q.at_b o.at_b ∙ sym (sign_is k D q.at_d o.at_d))
 
-  e_size : nat_abs (e_of A B C D) ≡ gap P Q
+  pub e_size : nat_abs (e_of A B C D) ≡ gap P Q
   e_size = (λ i. nat_abs (ac i -ℤ bd i)) ∙ (taken P Q).0
 
-  e_sign : non_neg (e_of A B C D) ≡ not (ltb P Q)
+  pub e_sign : non_neg (e_of A B C D) ≡ not (ltb P Q)
   e_sign = (λ i. non_neg (ac i -ℤ bd i)) ∙ (taken P Q).1
 
   s_is : s_of A B C D ≡ P + Q
@@ -159,28 +159,36 @@ module _ (k : ℕ) (a b c d : Float) (A B C D : ℤ) {s : Bool} (q : Square s a 
       let m : P + Q ≤ gap P Q * parts_of_sum = subst (λ (z : ℕ). P + Q ≤ z * parts_of_sum) e_size (le_trans (le_of_eq (sym s_is)) (leb→le (s_of A B C D) (nat_abs (e_of A B C D) * parts_of_sum) g)) in
       subst (λ (x : Float). T (le epsilon (magnitude x))) (sym val_is) (no_tie P Q W first second m l)
 
-  -- the exact sign, where the rounded difference is no tie
-  true_where_untied : (n : ℤ) → T (is_face n) → T (untied a b c d) → rule f32 n a b c d ≡ true_answer n A B C D
-  unfolding untied true_answer
-  true_where_untied n t u =
-      let w = same_sign P Q W first second (subst (λ (x : Float). T (le epsilon (magnitude x))) val_is u) in
-      let E : 0 < nat_abs (e_of A B C D) = subst (λ (z : ℕ). 0 < z) (sym e_size) w.1 in
+  -- the exact sign of face × a × E, where E is not 0
+  pub exact_sign : (n : ℤ) → T (is_face n) → 0 < gap P Q → true_answer n A B C D ≡ beq (beq (is_positive n) (not s)) (not (ltb P Q))
+  unfolding true_answer
+  exact_sign n t g =
       let f = of_face n t in
       let na = sign_mul n A f.1 (some k A q.at_a o.at_a) in
-      let all = sign_mul (n *ℤ A) (e_of A B C D) (subst (λ (z : ℕ). 0 < z) (sym na.0) (mul-pos f.1 (some k A q.at_a o.at_a))) E in
+      let all = sign_mul (n *ℤ A) (e_of A B C D) (subst (λ (z : ℕ). 0 < z) (sym na.0) (mul-pos f.1 (some k A q.at_a o.at_a))) (subst (λ (z : ℕ). 0 < z) (sym e_size) g) in
+      all.1 ∙ (λ i. beq ((na.1 ∙ (λ j. beq (sym f.0 j) (sign_is k A q.at_a o.at_a j))) i) (e_sign i))
+
+  -- where the rounded difference is no tie the rule gives it
+  true_where_untied : (n : ℤ) → T (is_face n) → T (untied a b c d) → rule f32 n a b c d ≡ true_answer n A B C D
+  unfolding untied
+  true_where_untied n t u =
+      let w = same_sign P Q W first second (subst (λ (x : Float). T (le epsilon (magnitude x))) val_is u) in
       decided n t a b c d q
       ∙ ap (beq (is_positive n)) (kept_untied a b c d u)
-      ∙ (λ i. beq (f.0 i) (not (unlike (q.at_a.sign i) ((ap sgn val_is ∙ w.0) i))))
-      ∙ by_signs (non_neg n) s (ltb P Q)
-      ∙ sym (all.1 ∙ (λ i. beq ((na.1 ∙ ap (beq (non_neg n)) (sign_is k A q.at_a o.at_a)) i) (e_sign i)))
+      ∙ (λ i. beq (is_positive n) (not (unlike (q.at_a.sign i) ((ap sgn val_is ∙ w.0) i))))
+      ∙ by_signs (is_positive n) s (ltb P Q)
+      ∙ sym (exact_sign n t w.1)
 
 -- ---- as they are stated
+pub untied_far : (k : ℕ) (a b c d : Float) (A B C D : ℤ) → T (alternate a b c d) → Over k a b c d A B C D → T (far_from_zero k A B C D) → T (far_for_sum A B C D) → T (untied a b c d)
+untied_far k a b c d A B C D t o f g = untied_where_far k a b c d A B C D (square a b c d t).1 o f g
+
 pub no_tie_is_true : (n : ℤ) (a b c d : Float) (r : Bool) → r ≡ rule f32 n a b c d → NoTieIsTrue n a b c d r
 no_tie_is_true n a b c d r e = record { no_tie = λ k A B C D t u o h. e ∙ true_where_untied k a b c d A B C D (square a b c d u).1 o n t h }
 
 pub true_join : (n : ℤ) (a b c d : Float) (r : Bool) → r ≡ rule f32 n a b c d → TrueJoin n a b c d r
 true_join n a b c d r e = record {
-  far_enough = λ k A B C D t u o f g. (no_tie_is_true n a b c d r e).no_tie k A B C D t u o (untied_where_far k a b c d A B C D (square a b c d u).1 o f g);
+  far_enough = λ k A B C D t u o f g. (no_tie_is_true n a b c d r e).no_tie k A B C D t u o (untied_far k a b c d A B C D u o f g);
 }
 
 pub no_tie_at : (q : Cube) (n : ℤ) (r : Bool) → r ≡ face_of q n → NoTieIsTrueAt q n r

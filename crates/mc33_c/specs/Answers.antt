@@ -3,6 +3,9 @@ use Rattle.std.specs.Prelude.{ℕ, Float}
 use Rattle.binary32.specs.Numbers.{plus_zero}
 use Rattle.cube.specs.Bits.{bit_of}
 use Rattle.face.specs.Face as Face
+use Rattle.trust.specs.declared.Trust.{Trust}
+use Rattle.trust.specs.declared.Trust.TheVariants.{Sure, Turned, Unknown}
+use Rattle.trust.specs.Trust as Trusts
 use Rattle.edge.specs.Edge.{Told, rising, beyond, crossed, blank}
 use Rattle.edge.specs.Edge as Edge
 use Rattle.notes.specs.declared.Notes.{Notes}
@@ -11,6 +14,7 @@ use Rattle.choice.specs.Choice.{Said, made, refused}
 use Rattle.rows.specs.Rows.{Result, done, refused_at}
 use Rattle.mc33_c.specs.declared.Mc33Choice.{Mc33Choice}
 use Rattle.mc33_c.specs.declared.Mc33Face.{Mc33Face}
+use Rattle.mc33_c.specs.declared.Mc33Trust.{Mc33Trust}
 use Rattle.mc33_c.specs.declared.Mc33Edge.{Mc33Edge}
 use Rattle.mc33_c.specs.declared.Mc33Outcome.{Mc33Outcome}
 
@@ -34,6 +38,16 @@ choice_numbers (refused n) = record { refusal = n; code = 0; row = 0; column = 0
 unfoldable pub face_numbers : Face.Said → Mc33Face
 face_numbers (Face.answer b) = record { refusal = 0; answer = bit_of b }
 face_numbers (Face.refused n) = record { refusal = n; answer = 0 }
+
+-- 1 sure, 2 turned, 3 unknown
+unfoldable pub trust_number : Trust → ℕ
+trust_number Sure = 1
+trust_number Turned = 2
+trust_number Unknown = 3
+
+unfoldable pub trust_numbers : Trusts.Said → Mc33Trust
+trust_numbers (Trusts.told b t) = record { refusal = 0; answer = bit_of b; trust = trust_number t }
+trust_numbers (Trusts.refused n) = record { refusal = n; answer = 0; trust = 0 }
 
 abbrev pub read_as : ℕ → Float → Float → Mc33Edge
 read_as kind t p = record { refusal = 0; kind = kind; t = t; product = p }

@@ -7,6 +7,7 @@ ghost use Rattle.root.specs.Root.{root_of, root_bits};
 ghost use Rattle.root.specs.Nearest.{NearestRoot};
 ghost use Rattle.root.specs.Special.{SpecialRoots, SpecialBits};
 ghost use Rattle.face.specs.Face.{test_face_of, said as face_said};
+ghost use Rattle.trust.specs.Trust.{trust_face_of, said as trust_said};
 ghost use Rattle.edge.specs.Edge.{edge_reading_of, said as edge_said};
 ghost use Rattle.cube.specs.Bits.{bit_of};
 ghost use Rattle.cube.specs.Refusals.{refusal_number};
@@ -19,7 +20,7 @@ ghost use Rattle.rows.specs.Results.{outcome_result};
 ghost use Rattle.list.specs.Lists.{result_of, answers_of};
 ghost use Rattle.list_signs.specs.Lists.{result_of as result_by_signs, answers_of as answers_by_signs};
 ghost use Rattle.mc33_c.specs.Version.{version};
-ghost use Rattle.mc33_c.specs.Answers.{answered, reached_numbers, choice_numbers, face_numbers, read_as, edge_numbers, outcome_numbers};
+ghost use Rattle.mc33_c.specs.Answers.{answered, reached_numbers, choice_numbers, face_numbers, trust_number, trust_numbers, read_as, edge_numbers, outcome_numbers};
 
 use cube::{Cube, EdgeNo, Face, Refusal};
 use edge::Reading;
@@ -27,6 +28,7 @@ use notes::Notes;
 use rows::ListRefused;
 use signs::Family;
 use tilings::{Choice, Counted};
+use trust::{FaceTrust, Trust};
 
 // `refusal` is 0 where there is an answer. Empty is all 0; no tiling is code 255, a number of the C interface, with the
 // configuration as row and the sub-configuration as column. Behind them stands what was counted.
@@ -49,6 +51,15 @@ pub struct Mc33Choice {
 pub struct Mc33Face {
     pub refusal: u8,
     pub answer: u8,
+}
+
+// `trust` is 1 for sure, 2 turned, 3 unknown, numbers of the C interface.
+#[repr(C)]
+#[derive(Clone, Copy)]
+pub struct Mc33Trust {
+    pub refusal: u8,
+    pub answer: u8,
+    pub trust: u8,
 }
 
 // `kind` is 1 for rising, 2 beyond, 3 crossed, 4 blank, numbers of the C interface; t and the product are 0 where
@@ -75,7 +86,7 @@ pub struct Mc33Outcome {
 pub fn mc33_version() -> u32
     ensures { result ≡ version }
 {
-    5001
+    5002
 }
 
 // The f32 square root of x: the nearest value. A NaN has no pattern of its own here.
@@ -201,6 +212,44 @@ pub fn mc33_face(cube: Cube, face: i8) -> Mc33Face
     ensures { result ≡ face_numbers (test_face_of cube face) }
 {
     Mc33Face::from(face::test_face(cube, Face(face)))
+}
+
+#[tactic(auto, unfolding(crate::specs::Answers::trust_number))]
+fn trust_number(trust: Trust) -> u8
+    ensures { result ≡ trust_number trust }
+{
+    match trust {
+        Trust::Sure => 1,
+        Trust::Turned => 2,
+        Trust::Unknown => 3,
+    }
+}
+
+impl From<Result<FaceTrust, Refusal>> for Mc33Trust {
+    ghost from_gives = { λ answer numbers. numbers ≡ trust_numbers (trust_said answer) };
+
+    #[tactic(auto, unfolding(crate::specs::Answers::trust_numbers), using(cube::proofs::Bounds::bit_bound))]
+    fn from(answer: Result<FaceTrust, Refusal>) -> Mc33Trust {
+        match answer {
+            Ok(FaceTrust { answer, trust }) => Mc33Trust {
+                refusal: 0,
+                answer: answer as u8,
+                trust: trust_number(trust),
+            },
+            Err(why) => Mc33Trust {
+                refusal: cube::number(why),
+                answer: 0,
+                trust: 0,
+            },
+        }
+    }
+}
+
+// The face test of a signed face number, with whether its answer is the true join.
+pub fn mc33_trust_face(cube: Cube, face: i8) -> Mc33Trust
+    ensures { result ≡ trust_numbers (trust_face_of cube face) }
+{
+    Mc33Trust::from(trust::trust_face(cube, Face(face)))
 }
 
 fn read(kind: u8, t: f32, product: f32) -> Mc33Edge

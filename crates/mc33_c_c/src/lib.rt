@@ -8,6 +8,7 @@ ghost use Rattle.root.specs.Root.{root_of, root_bits};
 ghost use Rattle.root.specs.Nearest.{NearestRoot};
 ghost use Rattle.root.specs.Special.{SpecialRoots, SpecialBits};
 ghost use Rattle.face.specs.Face.{test_face_of};
+ghost use Rattle.trust.specs.Trust.{trust_face_of};
 ghost use Rattle.edge.specs.Edge.{edge_reading_of};
 ghost use Rattle.choice.specs.Choice.{answer_of};
 ghost use Rattle.signs.specs.Rule.{family_of};
@@ -16,10 +17,10 @@ ghost use Rattle.signs.specs.Front.{front_of};
 ghost use Rattle.list.specs.Lists.{result_of, answers_of};
 ghost use Rattle.list_signs.specs.Lists.{result_of as result_by_signs, answers_of as answers_by_signs};
 ghost use Rattle.mc33_c.specs.Version.{version};
-ghost use Rattle.mc33_c.specs.Answers.{choice_numbers, face_numbers, edge_numbers, outcome_numbers};
+ghost use Rattle.mc33_c.specs.Answers.{choice_numbers, face_numbers, trust_numbers, edge_numbers, outcome_numbers};
 
 use cube::Cube;
-use mc33_c::{Mc33Choice, Mc33Edge, Mc33Face, Mc33Outcome};
+use mc33_c::{Mc33Choice, Mc33Edge, Mc33Face, Mc33Outcome, Mc33Trust};
 use signs::Family;
 
 #[unsafe(no_mangle)]
@@ -73,6 +74,13 @@ pub extern "C" fn mc33_face(cube: Cube, face: i8) -> Mc33Face
     ensures { result ≡ face_numbers (test_face_of cube face) }
 {
     mc33_c::mc33_face(cube, face)
+}
+
+#[unsafe(no_mangle)]
+pub extern "C" fn mc33_trust_face(cube: Cube, face: i8) -> Mc33Trust
+    ensures { result ≡ trust_numbers (trust_face_of cube face) }
+{
+    mc33_c::mc33_trust_face(cube, face)
 }
 
 #[unsafe(no_mangle)]

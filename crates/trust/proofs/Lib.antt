@@ -1,0 +1,3 @@
+pub mod Products
+pub mod Turning
+pub mod Trusting
