@@ -7,7 +7,7 @@ major = 5
 
 -- moves where something is added: a function, a refusal, a kind of reading to what is counted
 abbrev pub minor : ℕ
-minor = 1
+minor = 2
 
 abbrev pub version : ℕ
 version = 1000 * major + minor
