@@ -1,5 +1,6 @@
 pub mod Bools
 pub mod Compares
+mod Controls
 pub mod Finite
 pub mod Magnitudes
 pub mod NanBits

@@ -1,20 +1,19 @@
 -- A value that is a whole number over a power of two: its magnitude and its sign are the whole number's, and each finite f32 is one over 2 ^ 149. Assumes nothing.
-use mathlib.Core.Path.{◌≡◌, refl, sym, ap, ◌∙◌, subst}
+use mathlib.Core.Path.{◌≡◌, refl, sym, ap, ◌∙◌}
 use mathlib.Core.Logic.{inl, inr}
-use mathlib.Core.Bool.{Bool, true, false, not, cond}
+use mathlib.Core.Bool.{Bool, true, false, not}
 use Prim.Native.Nat.{ℕ, zero, suc, ◌+◌, ◌-◌, ◌*◌, ◌/◌, ◌^◌, ◌≤◌, ◌<◌}
 use native.Mathlib.Nat.{le_of_suc-le-suc, lt_of_not-le, not-le_of_lt, mul-one, mul-zero, zero-add, add-mul, mul-le-mul_right, mul-lt-mul_of_pos_right, mul-pos, zero-mul, mul_assoc, mul_comm, mul_right_comm, mul-div_cancel, zero-div, eq_of_mul-eq-mul_right}
 use native.Mathlib.Omega.{arith}
 use borrow.Author.Tests.{lt-ltb, le-ltb}
 use lib.Dec.{T, ltb, ltb→lt}
-use lib.IntN.{ℤ, pos, negsuc, neg_ℤ, nat_abs, ◌*ℤ◌}
+use lib.IntN.{ℤ, pos, negsuc, nat_abs, ◌*ℤ◌}
 use lib.Signed.{non_neg, lt_z}
 use lib.Pow.{pow-add, pow_pos, pow-lt}
-use lib.Ieee.{Float, nan, inf, fin, binary32, low, up, down, unlike, below, fits, lt}
+use lib.Ieee.{Float, nan, inf, fin, binary32, low, up, down, unlike, below, lt}
 use lib.Ieee.Digits.{back}
 use lib.Ieee.Exact.{HasValue}
 use lib.Ieee.Fits.{up_pos, down_pos}
-use lib.Ieee.Scale.{finite}
 use lib.Ieee.Positive.{above}
 use Rattle.std.proofs.lemmas.Bool.{cases_lt}
 use Rattle.binary32.specs.Numbers.{magnitude}
@@ -69,7 +68,7 @@ below_signed true false (suc a) b = lt-ltb 0 (suc a + b) (omega arith)
 below_signed true true zero zero = refl
 below_signed true true zero (suc b) = le-ltb (suc b) 0 (omega arith)
 below_signed true true (suc a) zero = lt-ltb 0 (suc a) (omega arith)
-below_signed true true (suc a) (suc b) = elim (cases_lt b a) [ | inl l ↦ rw (lt-ltb b a l, lt-ltb (suc b) (suc a) (omega arith)) refl | inr l ↦ rw (le-ltb b a l, le-ltb (suc b) (suc a) (omega arith)) refl ]
+below_signed true true (suc a) (suc b) = elim (cases_lt b a) [ inl l ↦ rw (lt-ltb b a l, lt-ltb (suc b) (suc a) (omega arith)) refl | inr l ↦ rw (le-ltb b a l, le-ltb (suc b) (suc a) (omega arith)) refl ]
 
 pub ltb_times : (a b c : ℕ) → 0 < c → ltb (a * c) (b * c) ≡ ltb a b
 ltb_times a b c C = elim (cases_lt a b) [
@@ -107,7 +106,7 @@ sign_exactly k (inf s) X p h = absurd h
 sign_exactly k (fin s m e) X p h =
     let n = m * up e * 2 ^ k in
     let N : 0 < n = mul-pos (mul-pos (ltb→lt 0 m p) (up_pos e)) (pow_pos k) in
-    sym (same X (down e) (down_pos e) ) ∙ ap non_neg (sym h) ∙ signed_sign s n N
+    sym (same X (down e) (down_pos e)) ∙ ap non_neg (sym h) ∙ signed_sign s n N
   where
     same : (X : ℤ) (d : ℕ) → 0 < d → non_neg (X *ℤ pos d) ≡ non_neg X
     same (pos a) d D = refl

@@ -3,14 +3,14 @@
 use mathlib.Core.Path.{◌≡◌, refl, sym, ap, ◌∙◌, subst}
 use mathlib.Core.Logic.{inl, inr}
 use mathlib.Core.Bool.{Bool, true, false, cond, true≢false}
-use Prim.Native.Nat.{ℕ, suc, ◌+◌, ◌-◌, ◌*◌, ◌/◌, ◌^◌, ◌<◌, ◌≤◌}
-use native.Mathlib.Nat.{le_trans, le_of_eq, le_antisymm, mul_comm, mul_assoc, add-mul, one-mul, mul_right_comm, mul-pos, mul-sub, mul-lt-mul_of_pos_right, mul-le-mul_right, lt_of_mul-lt-mul_right, le_of_mul-le-mul_right, sub_self}
+use Prim.Native.Nat.{ℕ, ◌+◌, ◌-◌, ◌*◌, ◌/◌, ◌^◌, ◌<◌, ◌≤◌}
+use native.Mathlib.Nat.{le_trans, le_of_eq, le_antisymm, mul_comm, mul_assoc, add-mul, one-mul, mul_right_comm, mul-pos, mul-sub, mul-le-mul_right, le_of_mul-le-mul_right, sub_self}
 use native.Mathlib.Omega.{arith}
 use borrow.Author.Tests.{lt-ltb, le-ltb}
-use lib.Dec.{T, ltb, lit<, lit≤}
-use lib.IntN.{pos, negsuc}
+use lib.Dec.{T, ltb}
+use lib.IntN.{pos}
 use lib.Pow.{pow_pos}
-use lib.Ieee.{Float, nan, inf, fin, binary32, prec, low, up, down, size, round, sum, sub, le}
+use lib.Ieee.{Float, nan, inf, fin, binary32, prec, low, up, down, size, round, sub, le}
 use lib.Ieee.Exact.{HasValue}
 use lib.Ieee.Fits.{down_pos}
 use lib.Ieee.Order.{round_mono}

@@ -1,18 +1,18 @@
 -- Change 6: of four values that alternate in range an answer that is no tie is the one of the exact sign, and it is no tie where E is far enough from zero. Assumes nothing.
 use mathlib.Core.Path.{◌≡◌, refl, sym, ap, ◌∙◌, subst}
 use mathlib.Core.Logic.{inl, inr}
-use mathlib.Core.Bool.{Bool, true, false, not, cond, beq, true≢false}
-use Prim.Native.Nat.{ℕ, zero, suc, ◌+◌, ◌-◌, ◌*◌, ◌/◌, ◌^◌, ◌<◌, ◌≤◌}
-use native.Mathlib.Nat.{le_trans, le_of_eq, mul_comm, mul_right_comm, mul-pos, mul-le-mul, mul-le-mul_left, mul-mul-mul_comm, zero-lt-suc}
+use mathlib.Core.Bool.{Bool, true, false, not, beq, true≢false}
+use Prim.Native.Nat.{ℕ, zero, suc, ◌+◌, ◌*◌, ◌^◌, ◌<◌, ◌≤◌}
+use native.Mathlib.Nat.{le_trans, le_of_eq, mul-pos, mul-le-mul, mul-le-mul_left, mul-mul-mul_comm, zero-lt-suc}
 use native.Mathlib.Omega.{arith}
 use borrow.Author.Tests.{lt-ltb, le-ltb}
-use lib.Dec.{T, leb, ltb, leb→le, lit≤}
+use lib.Dec.{T, ltb, leb→le, lit≤}
 use lib.IntN.{ℤ, pos, negsuc, neg_ℤ, nat_abs, ◌*ℤ◌, ◌-ℤ◌}
 use lib.Signed.{non_neg}
 use lib.Pow.{pow-add, pow_pos}
-use lib.Ieee.{Float, nan, inf, fin, binary32, prec, low, unlike, size, round, sub, mul, le, lt, of_bits}
+use lib.Ieee.{Float, nan, inf, fin, binary32, unlike, round, sub, mul, le, of_bits}
 use lib.Ieee.Exact.{HasValue}
-use lib.Ieee.Positive.{positive, above, values_of_le, value_pos, mul_at}
+use lib.Ieee.Positive.{positive, values_of_le, value_pos, mul_at}
 use lib.Ieee.Scale.{normal_of_fraction}
 use Rattle.std.proofs.lemmas.Bool.{cases_lt}
 use Rattle.binary32.specs.Numbers.{f32, magnitude, epsilon}
@@ -64,7 +64,7 @@ sign_mul (negsuc x) (negsuc y) p q = (refl, refl)
 
 taken : (P Q : ℕ) → (nat_abs (pos P -ℤ pos Q) ≡ gap P Q) × (non_neg (pos P -ℤ pos Q) ≡ not (ltb P Q))
 taken P zero = rw (le-ltb P 0 (omega arith)) (omega arith, refl)
-taken P (suc q) = elim (cases_lt P (suc q)) [ | inl l ↦ rw (lt-ltb P (suc q) l) (omega arith, refl) | inr l ↦ rw (le-ltb P (suc q) l) (refl, refl) ]
+taken P (suc q) = elim (cases_lt P (suc q)) [ inl l ↦ rw (lt-ltb P (suc q) l) (omega arith, refl) | inr l ↦ rw (le-ltb P (suc q) l) (refl, refl) ]
 
 -- ---- a product of two values in range
 -- a value that is above zero is its magnitude

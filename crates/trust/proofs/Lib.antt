@@ -1,3 +1,4 @@
+mod Controls
 pub mod Products
 pub mod Turning
 pub mod Trusting

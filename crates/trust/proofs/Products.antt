@@ -2,11 +2,10 @@
 use mathlib.Core.Path.{◌≡◌, refl, sym, ap, ◌∙◌, subst}
 use mathlib.Core.Bool.{Bool}
 use Prim.Native.Nat.{ℕ, ◌+◌, ◌*◌, ◌/◌, ◌^◌, ◌<◌}
-use native.Mathlib.Nat.{lt_of_lt_of_le, lt_of_le_of_lt, le_of_lt, mul-pos, mul_assoc, mul_comm, mul_right_comm, mul-le-mul, mul-le-mul_right, mul-mul-mul_comm}
-use native.Mathlib.Omega.{arith}
-use lib.Dec.{T, lit<, lit≤}
-use lib.IntN.{ℤ, nat_abs, ◌*ℤ◌}
-use lib.Pow.{pow-add, pow_pos}
+use native.Mathlib.Nat.{lt_of_le_of_lt, le_of_lt, mul-pos, mul_assoc, mul_right_comm, mul-le-mul, mul-le-mul_right, mul-mul-mul_comm}
+use lib.Dec.{T, lit<}
+use lib.IntN.{ℤ, ◌*ℤ◌}
+use lib.Pow.{pow-add}
 use lib.Ieee.{Float, nan, inf, fin, binary32, binary64, prec, low, up, down, unlike, fits, round, mul}
 use lib.Ieee.Exact.{HasValue, round_exact}
 use lib.Ieee.Fits.{down_pos}

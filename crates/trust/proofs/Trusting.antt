@@ -1,8 +1,8 @@
 -- What the routine says of a face test's answer: that it is one only of a face, where it is sure, and that sure and turned do not hang on the common power of two. Assumes nothing.
 use mathlib.Core.Path.{◌≡◌, refl, sym, ap, ◌∙◌, subst}
 use mathlib.Core.Logic.{◌⊎◌, inl, inr}
-use mathlib.Core.Bool.{Bool, true, false, not, ◌&&◌, ◌||◌, beq, cond, true≢false}
-use Prim.Native.Nat.{ℕ, ◌+◌, ◌*◌, ◌^◌, ◌<◌}
+use mathlib.Core.Bool.{Bool, true, false, not, ◌&&◌, ◌||◌, beq, cond}
+use Prim.Native.Nat.{ℕ, ◌*◌, ◌^◌, ◌<◌}
 use native.Mathlib.Nat.{mul_right_comm, mul-pos, mul-mul-mul_comm, eq_of_mul-eq-mul_right}
 use lib.Dec.{T, ltb, eqb}
 use lib.IntN.{ℤ, nat_abs}
@@ -21,7 +21,7 @@ use Rattle.face.specs.Face.{face_of, is_face, is_positive, answer, test_face_of}
 use Rattle.face.specs.Face as Face
 use Rattle.face.specs.Laws.{alternate}
 use Rattle.face.specs.Columns.{square_of}
-use Rattle.face.specs.TrueJoin.{Over, e_of, far_from_zero, far_for_sum, true_answer, untied, NoTieIsTrue, NoTieIsTrueAt}
+use Rattle.face.specs.TrueJoin.{Over, e_of, true_answer, untied, NoTieIsTrue, NoTieIsTrueAt}
 use Rattle.face.proofs.Decision.{square}
 use Rattle.face.proofs.TrueJoin.{sizes, untied_far}
 use Rattle.trust.specs.declared.Trust.{Trust}

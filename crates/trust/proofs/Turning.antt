@@ -2,12 +2,11 @@
 use mathlib.Core.Path.{◌≡◌, refl, sym, ap, ◌∙◌, subst}
 use mathlib.Core.Logic.{inl, inr}
 use mathlib.Core.Bool.{Bool, true, false, not, ◌&&◌, ◌||◌, beq, cond}
-use Prim.Native.Nat.{ℕ, ◌+◌, ◌-◌, ◌*◌, ◌^◌, ◌<◌, ◌≤◌}
-use native.Mathlib.Nat.{le_antisymm}
+use Prim.Native.Nat.{ℕ, ◌-◌, ◌<◌, ◌≤◌}
 use native.Mathlib.Omega.{arith}
-use borrow.Author.Tests.{lt-ltb, le-ltb, eq-eqb, ne_eqb}
+use borrow.Author.Tests.{lt-ltb, le-ltb, ne_eqb}
 use lib.Dec.{T, ltb, eqb}
-use lib.IntN.{ℤ, pos, nat_abs, ◌*ℤ◌}
+use lib.IntN.{ℤ, pos, ◌*ℤ◌}
 use lib.Signed.{lt_z}
 use lib.Ieee.{Float, nan, inf, fin, binary32, low, of_bits, lt, le}
 use lib.Ieee.Scale.{finite}
@@ -18,14 +17,13 @@ use mir.ValLaws.{to_z-of_z}
 use Rattle.std.proofs.lemmas.Bool.{cases_lt}
 use Rattle.binary32.specs.Numbers.{magnitude}
 use Rattle.binary32.specs.Wholes.{Exactly, whole_of}
-use Rattle.binary32.proofs.Magnitudes.{sgn, sign_test, positive_above}
+use Rattle.binary32.proofs.Magnitudes.{sign_test, positive_above}
 use Rattle.binary32.proofs.Wholes.{lt_exactly}
 use Rattle.face.specs.declared.Square.{Square}
 use Rattle.face.specs.Face.{is_face, is_positive}
 use Rattle.face.specs.Laws.{alternate}
-use Rattle.face.specs.TrueJoin.{Over, e_of, true_answer}
+use Rattle.face.specs.TrueJoin.{Over, true_answer}
 use Rattle.face.proofs.Decision.{Ranged, square, has_size}
-use Rattle.face.proofs.Decision as Decision
 use Rattle.face.proofs.Differences.{gap}
 use Rattle.face.proofs.TrueJoin.{sizes, ac, bd, e_size, exact_sign}
 use Rattle.trust.specs.Trust.{otherwise, turned_of, OverWholes}

@@ -1,11 +1,8 @@
 -- `trust::product` is exact: what it is lent are f32.
 use mathlib.Core.Path.{◌≡◌, sym, subst}
-use mathlib.Core.Bool.{Bool, true}
+use mathlib.Core.Bool.{true}
 use lib.Dec.{T}
-use lib.IntN.{ℤ, ◌*ℤ◌}
-use lib.Ieee.{Float, binary32, binary64, fits, mul}
-use lib.Ieee.Scale.{finite}
-use Rattle.binary32.specs.Wholes.{Exactly, whole_of}
+use lib.Ieee.{Float, binary32, fits}
 use Rattle.binary32.proofs.Wholes.{each_is_whole}
 use Rattle.trust.proofs.Products.{exact_product}
 use borrow.Author.Rules.{rules}
