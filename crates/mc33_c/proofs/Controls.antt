@@ -5,13 +5,15 @@ use mathlib.Core.Bool.{true, false}
 use mathlib.Core.List.{[], ◌∷◌, map}
 use Rattle.binary32.specs.Numbers.{plus_zero}
 use Rattle.face.specs.Face as Face
+use Rattle.trust.specs.declared.Trust.TheVariants.{Sure, Turned, Unknown}
+use Rattle.trust.specs.Trust as Trusts
 use Rattle.edge.specs.Edge.{rising, beyond, crossed, blank, one, two}
 use Rattle.edge.specs.Edge as Edge
 use Rattle.notes.specs.Notes.{no_notes, tests_of}
 use Rattle.tilings.specs.Plan.{empty, no_tiling, tiling, reach}
 use Rattle.choice.specs.Choice.{made, refused}
 use Rattle.rows.specs.Rows.{done, refused_at}
-use Rattle.mc33_c.specs.Answers.{reached_numbers, choice_numbers, face_numbers, reading_numbers, edge_numbers, outcome_numbers}
+use Rattle.mc33_c.specs.Answers.{reached_numbers, choice_numbers, face_numbers, trust_number, trust_numbers, reading_numbers, edge_numbers, outcome_numbers}
 
 choices : map choice_numbers
     (made (reach empty no_notes)
@@ -35,6 +37,18 @@ faces : map face_numbers (Face.answer true ∷ Face.answer false ∷ Face.refuse
     ≡ record { refusal = 0; answer = 1 } ∷ record { refusal = 0; answer = 0 } ∷ record { refusal = 4; answer = 0 } ∷ record { refusal = 3; answer = 0 } ∷ []
 unfolding face_numbers
 faces = refl
+
+trusts : map trust_numbers
+    (Trusts.told true Sure ∷ Trusts.told false Sure ∷ Trusts.told true Turned ∷ Trusts.told false Unknown ∷ Trusts.refused 4 ∷ Trusts.refused 3 ∷ [])
+    ≡ record { refusal = 0; answer = 1; trust = 1 }
+    ∷ record { refusal = 0; answer = 0; trust = 1 }
+    ∷ record { refusal = 0; answer = 1; trust = 2 }
+    ∷ record { refusal = 0; answer = 0; trust = 3 }
+    ∷ record { refusal = 4; answer = 0; trust = 0 }
+    ∷ record { refusal = 3; answer = 0; trust = 0 }
+    ∷ []
+unfolding trust_numbers trust_number
+trusts = refl
 
 edges : map edge_numbers
     (Edge.reading rising ∷ Edge.reading (beyond two) ∷ Edge.reading (crossed one two) ∷ Edge.reading blank ∷ Edge.refused 5 ∷ Edge.refused 3 ∷ [])
