@@ -41,6 +41,16 @@ static void print_face(mc33_cube cube, int face)
         printf("face %d: %s\n", face, said.answer ? "true" : "false");
 }
 
+static void print_trust(mc33_cube cube, int face)
+{
+    static const char *const words[] = {"", "sure", "turned", "unknown"};
+    mc33_face_trust said = mc33_trust_face(cube, (int8_t)face);
+    if (said.refusal)
+        printf("trust %d: refused %d\n", face, said.refusal);
+    else
+        printf("trust %d: %s, %s\n", face, said.answer ? "true" : "false", words[said.trust]);
+}
+
 static void print_edge(mc33_cube cube, int edge)
 {
     mc33_edge_reading read = mc33_edge(cube, (int8_t)edge);
@@ -85,6 +95,7 @@ int main(void)
 {
     mc33_cube tied = {{1, -1, 1, -1, -1, -1, -1, -1}};
     mc33_cube apart = {{1, -2, 1, -2, -1, -1, -1, -1}};
+    mc33_cube thin = {{1e-4f, -2e-4f, 1e-4f, -2e-4f, -1, -1, -1, -1}};
     mc33_cube level = {{3, -1, -1, -1, -1, -1, 3, -1}};
     mc33_cube steep = {{9, -1, -1, -1, -1, -1, 9, -1}};
     mc33_cube flat = {{1, 1, 1, 1, 1, 1, 1, 1}};
@@ -117,6 +128,11 @@ int main(void)
     print_face(tied, 5);
     print_face(tied, -5);
     print_face(tied, 0);
+    print_trust(apart, 5);
+    print_trust(thin, 5);
+    print_trust(thin, -5);
+    print_trust(flat, 5);
+    print_trust(tied, 0);
     print_edge(level, 0);
     print_edge(steep, 8);
     print_edge(tied, 0);

@@ -42,18 +42,18 @@ extern "C" {
  * wrongly (the bytes of a row, the layout of a record, the meaning of a code) or would no longer build, since a name is
  * gone; the shared object's name has it, as libmc33.so.5. The minor number moves where something is added: a function,
  * a refusal's number, so keep a `default` in a switch over refusals, or what is counted: from 2.1 on `unsettled` counts
- * blank readings too. From 3.0 on a choice has `unmatched`, from 4.0 on `readings`, from 5.0 on a row has both, and
- * from 5.1 on there are mc33_family_of, mc33_choose_signs and mc33_list_signs. */
+ * blank readings too. From 3.0 on a choice has `unmatched`, from 4.0 on `readings`, from 5.0 on a row has both, from
+ * 5.1 on there are mc33_family_of, mc33_choose_signs and mc33_list_signs, and from 5.2 on mc33_trust_face. */
 #define MC33_VERSION_MAJOR 5
-#define MC33_VERSION_MINOR 1
+#define MC33_VERSION_MINOR 2
 #define MC33_VERSION (1000 * MC33_VERSION_MAJOR + MC33_VERSION_MINOR)
 
 /* MC33_VERSION of the library that is linked. With another major number than this header's nothing else here holds. */
 uint32_t mc33_version(void);
 
-/* Refusals. Order: a choice 1, 2, 3, and by the signs 3 alone; a face test 4, 3; an edge reading 5, 3; a list 6, 7,
- * then its cubes from the first, each as a choice. 8 is the text program's, and there is no 9. mc33_refusal_text has
- * the words. */
+/* Refusals. Order: a choice 1, 2, 3, and by the signs 3 alone; a face test 4, 3, and so with its trust; an edge reading
+ * 5, 3; a list 6, 7, then its cubes from the first, each as a choice. 8 is the text program's, and there is no 9.
+ * mc33_refusal_text has the words. */
 enum {
     MC33_ANSWERED = 0,
     MC33_NO_CASE = 1,          /* the case is below 0 or above 14 */
@@ -105,6 +105,18 @@ typedef struct {
     uint8_t refusal, answer;
 } mc33_face_answer;
 
+/* Whether a face answer is the true join, that of the values as exact numbers. */
+enum {
+    MC33_SURE = 1,   /* it is, or the exact numbers are a tie too */
+    MC33_TURNED = 2, /* the exact numbers join the other two corners */
+    MC33_UNKNOWN = 3 /* the four values do not alternate, or one's magnitude is not from 1e-6f to 2^63 */
+};
+
+/* A face answer, 1 for true, with its trust. */
+typedef struct {
+    uint8_t refusal, answer, trust;
+} mc33_face_trust;
+
 /* What is read at an edge. */
 enum {
     MC33_RISING = 1,
@@ -139,6 +151,21 @@ mc33_choice mc33_choose_signs(mc33_cube cube);
 
 /* Tests a face: -6..-1 or 1..6. */
 mc33_face_answer mc33_face(mc33_cube cube, int8_t face);
+
+/* Tests a face as mc33_face does, and tells whether the answer is the true join. Let a, b, c, d be the values round the
+ * face and E = a*c - b*d, exact and not rounded: the true answer is 1 where face * a * E is above 0, and 0 where it is
+ * below. The face test rounds; below 2^-23 it has a tie, which goes by the face number's sign. So at ties, and nowhere
+ * else, an answer may be turned. Corners 0 to 3 in face 5, with each magnitude from 1e-6f to 2^63 in the first three:
+ *
+ *     1 -2 1 -2                        0, MC33_SURE: E is -3
+ *     1 -1 1 -1                        1, MC33_SURE: E is 0
+ *     1e-4f -2e-4f 1e-4f -2e-4f        1, MC33_TURNED: E is -3e-8
+ *     1 1 1 1                          1, MC33_UNKNOWN: they do not alternate
+ *
+ * Proved, of values that alternate in this range: it is sure where |E| is at least 2^-22 and at least 2^-22 times
+ * |a*c| + |b*d|, and where the answer is no tie. A choice goes by the answer, turned or not, and so do both cubes that
+ * meet at the face: there is no slot. */
+mc33_face_trust mc33_trust_face(mc33_cube cube, int8_t face);
 
 /* Reads an edge: 0..11. These numbers are not those of the tilings' edges. */
 mc33_edge_reading mc33_edge(mc33_cube cube, int8_t edge);

@@ -4,6 +4,7 @@ import mc33
 
 TIED = [1, -1, 1, -1, -1, -1, -1, -1]
 APART = [1, -2, 1, -2, -1, -1, -1, -1]
+THIN = [1e-4, -2e-4, 1e-4, -2e-4, -1, -1, -1, -1]
 LEVEL = [3, -1, -1, -1, -1, -1, 3, -1]
 STEEP = [9, -1, -1, -1, -1, -1, 9, -1]
 FLAT = [1] * 8
@@ -30,6 +31,11 @@ def fields(routine, *arguments):
 
 def face(corners, number):
     return "true" if mc33.test_face(corners, number) else "false"
+
+
+def trust(corners, number):
+    answer, trusted = mc33.trust_face(corners, number)
+    return f"{'true' if answer else 'false'}, {trusted}"
 
 
 def edge(corners, number):
@@ -65,6 +71,8 @@ for corners in TIED, ZEROS, BROKEN:
     print(f"by the signs: {fields(mc33.choose_signs, corners)}")
 for number in 5, -5, 0:
     print(f"face {number}: {said(face, TIED, number)}")
+for corners, number in (APART, 5), (THIN, 5), (THIN, -5), (FLAT, 5), (TIED, 0):
+    print(f"trust {number}: {said(trust, corners, number)}")
 for corners, number in (LEVEL, 0), (STEEP, 8), (TIED, 0), (FLAT, 0), (TIED, 12):
     print(f"edge {number}: {said(edge, corners, number)}")
 print(f"root of 6.25: {mc33.root(6.25):g}")

@@ -1,6 +1,7 @@
 /* What include/mc33.h says by itself, held to the library: its version, the configurations of each case, the names of
- * the tilings by document 01's cubes, its examples of what is counted, the size of a row, the families of all sets, and
- * that a choice by the signs is that of the family. Prints what differs; the status is how many did. */
+ * the tilings by document 01's cubes, its examples of what is counted and of which faces can be trusted, the size of a
+ * row, the families of all sets, and that a choice by the signs is that of the family. Prints what differs; the status
+ * is 1 where something did. */
 #include <math.h>
 #include <stdio.h>
 #include <string.h>
@@ -189,6 +190,50 @@ static void signs_refused(void)
     held(mc33_list_signs(NULL, 0, NULL, 0).refusal == 0, "no cubes by the signs", 0);
 }
 
+/* The header's own examples of trust, with corners 0 to 3, and with either sign of the face. */
+static void trusted(float a, float b, float c, float d, int answer, int other, int trust)
+{
+    mc33_cube cube = {{-1, -1, -1, -1, -1, -1, -1, -1}};
+    mc33_face_trust said;
+    cube.c[0] = a;
+    cube.c[1] = b;
+    cube.c[2] = c;
+    cube.c[3] = d;
+    said = mc33_trust_face(cube, 5);
+    held(said.refusal == 0 && said.answer == answer && said.trust == trust, "the trust of face 5", said.trust);
+    said = mc33_trust_face(cube, -5);
+    held(said.refusal == 0 && said.answer == other && said.trust == trust, "the trust of face -5", said.trust);
+}
+
+/* The answer and the refusal are those of the face test. */
+static void trusted_as_answered(mc33_cube cube)
+{
+    int face;
+    for (face = -128; face < 128; face++) {
+        mc33_face_answer answer = mc33_face(cube, (int8_t)face);
+        mc33_face_trust said = mc33_trust_face(cube, (int8_t)face);
+        held(said.refusal == answer.refusal && said.answer == answer.answer, "the answer of a face", face);
+        held(said.refusal ? said.trust == 0 : MC33_SURE <= said.trust && said.trust <= MC33_UNKNOWN, "a trust", face);
+    }
+}
+
+static void trusts(void)
+{
+    mc33_cube infinite = {{1, 1, 1, 1, 1, 1, 1, (float)HUGE_VAL}};
+    int set;
+    trusted(1, -2, 1, -2, 0, 1, MC33_SURE);
+    trusted(1, -1, 1, -1, 1, 0, MC33_SURE);
+    trusted(1e-4f, -2e-4f, 1e-4f, -2e-4f, 1, 0, MC33_TURNED);
+    trusted(1, 1, 1, 1, 1, 0, MC33_UNKNOWN);
+    for (set = 0; set < 256; set++) {
+        trusted_as_answered(cube_of(set, -2.0f));
+        trusted_as_answered(cube_of(set, 0.0f));
+    }
+    held(mc33_trust_face(infinite, 7).refusal == MC33_NO_FACE, "no face, before the corners", 7);
+    held(mc33_trust_face(infinite, 1).refusal == MC33_NOT_FINITE, "a corner off the face that is not finite", 1);
+    held(sizeof(mc33_face_trust) == 3, "a face's trust has 3 bytes", (int)sizeof(mc33_face_trust));
+}
+
 int main(void)
 {
     configurations();
@@ -200,6 +245,7 @@ int main(void)
     families();
     signs();
     signs_refused();
+    trusts();
     printf(wrong ? "header: %d wrong\n" : "header: as the library has it\n", wrong);
     return wrong != 0;
 }

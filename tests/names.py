@@ -1,7 +1,7 @@
 #!/usr/bin/env python3
 """Holds the tables of names that stand in several languages to one: the tilings' names to the proved code's, the
-readings to the proved figures, and the configurations, the refusals' texts and the functions to the header's, which
-header.c beside this holds to the library. Prints a line for each; status 1 where one differs."""
+readings to the proved figures, and the configurations, the refusals' texts, the trusts and the functions to the
+header's, which header.c beside this holds to the library. Prints a line for each; status 1 where one differs."""
 import inspect
 import re
 import sys
@@ -11,6 +11,7 @@ TOP = Path(__file__).resolve().parent.parent
 sys.path.insert(0, str(TOP / "python"))
 import mc33  # noqa: E402
 from mc33.library import FUNCTIONS  # noqa: E402
+from mc33.routines import TRUSTS  # noqa: E402
 
 header = (TOP / "include/mc33.h").read_text()
 using = (TOP / "docs/USING.md").read_text()
@@ -84,6 +85,15 @@ def refusals():
     hold("refusals, no 9", [number for number in wanted if number == 9], [])
 
 
+def trusts():
+    wanted = {int(number): name.lower() for name, number in re.findall(r"MC33_(SURE|TURNED|UNKNOWN) = (\d+)", header)}
+    named = re.findall(r"(\d+) => Trust::(\w+)", rust)
+    hold("trusts, Rust", {int(number): name.lower() for number, name in named}, wanted)
+    hold("trusts, Python", TRUSTS, wanted)
+    table = re.findall(r"`MC33_(\w+)` \| `(\w+)` \| `'(\w+)'`", within(using, "| trust | what", "\n\n"))
+    hold("trusts, USING", [{word.lower() for word in row} for row in table], [{wanted[n]} for n in sorted(wanted)])
+
+
 def functions():
     declared = sorted(re.findall(r"^(?!static)\w.*\b(mc33_\w+)\(", header, re.M))
     hold("functions, Rust", sorted(re.findall(r"\bfn (mc33_\w+)\(", rust)), declared)
@@ -101,5 +111,6 @@ tilings()
 configurations()
 readings()
 refusals()
+trusts()
 functions()
 sys.exit(wrong != 0)

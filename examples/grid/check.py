@@ -16,6 +16,7 @@ from ask import ask
 from mesh import RULES, Faults, draw, write_obj, write_ply
 from picture import GREY, write_png
 from source import Tables
+from trust import alternating, trusts
 from winding import places
 
 # Noise of seed 1: what is left without a rule, and without all of them.
@@ -26,6 +27,10 @@ NOISE = {
          "all": Faults(240, 1560, 39, 299, 0)},
 }
 FOURFOLD = {24: 0, 64: 39}
+
+# Noise of seed 1: its faces whose corners alternate by their trust, and times 2^-10.
+TRUSTS = {24: ({"sure": 3701}, {"sure": 3012, "turned": 671, "unknown": 18}),
+          64: ({"sure": 86811}, {"sure": 70473, "turned": 15932, "unknown": 406})}
 
 # Whole numbers of seed 1, by the rules: open edges where zeros are kept.
 ZEROS_KEPT = {24: 708, 64: 15248}
@@ -59,6 +64,12 @@ def check_zeros(tables, size):
         values = field.make("whole", size, 1, zeros)
         faults = draw(tables, values, size, ask(tables, values, size)).faults()
         hold(f"whole numbers, zeros {zeros}: open, wrongly wound", faults[:2], (wanted, 0))
+
+
+def check_trust(size):
+    squares = list(alternating(field.make("noise", size, 1), size))
+    for power, wanted in zip((0, -10), TRUSTS[size]):
+        hold(f"noise times 2^{power}, faces by their trust", dict(trusts(squares, power)), wanted)
 
 
 def read_ply(text):
@@ -119,6 +130,7 @@ def main(checkout, size="64"):
     check_noise(tables, size)
     check_zeros(tables, size)
     check_sphere(tables, size)
+    check_trust(size)
     sys.exit(f"{failures} failed" if failures else 0)
 
 

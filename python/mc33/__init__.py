@@ -15,12 +15,14 @@ missing, of another major version or before this one.
 from .lists import choose_list, choose_list_signs
 from .refusals import REFUSALS, Refused, refusal_text
 from .release import VERSION as __version__
-from .routines import Family, Reading, choose, choose_signs, family_of, read_edge, root, root_bits, test_face, version
+from .routines import FaceTrust, Family, Reading
+from .routines import choose, choose_signs, family_of, read_edge, root, root_bits, test_face, trust_face, version
 from .rows import Choice, Columns, choices, columns
 from .tables import CONFIGURATIONS, EMPTY, MOST_READINGS, NO_TILING, ROW, TILINGS
 
 __all__ = [
     "CONFIGURATIONS", "EMPTY", "MOST_READINGS", "NO_TILING", "REFUSALS", "ROW", "TILINGS", "Choice", "Columns",
-    "Family", "Reading", "Refused", "choices", "choose", "choose_list", "choose_list_signs", "choose_signs", "columns",
-    "family_of", "read_edge", "refusal_text", "root", "root_bits", "test_face", "version",
+    "FaceTrust", "Family", "Reading", "Refused", "choices", "choose", "choose_list", "choose_list_signs",
+    "choose_signs", "columns", "family_of", "read_edge", "refusal_text", "root", "root_bits", "test_face", "trust_face",
+    "version",
 ]

@@ -32,6 +32,10 @@ class FaceRecord(ctypes.Structure):
     _fields_ = [("refusal", c_uint8), ("answer", c_uint8)]
 
 
+class FaceTrustRecord(ctypes.Structure):
+    _fields_ = [(name, c_uint8) for name in ("refusal", "answer", "trust")]
+
+
 class EdgeRecord(ctypes.Structure):
     _fields_ = [("refusal", c_uint8), ("kind", c_uint8), ("t", c_float), ("product", c_float)]
 
@@ -47,6 +51,7 @@ FUNCTIONS: Dict[str, Tuple[Any, List[Any]]] = {
     "mc33_family_of": (FamilyRecord, [c_uint8]),
     "mc33_choose_signs": (ChoiceRecord, [CubeRecord]),
     "mc33_face": (FaceRecord, [CubeRecord, c_int8]),
+    "mc33_trust_face": (FaceTrustRecord, [CubeRecord, c_int8]),
     "mc33_edge": (EdgeRecord, [CubeRecord, c_int8]),
     "mc33_root": (c_float, [c_float]),
     "mc33_root_bits": (c_uint32, [c_uint32]),

@@ -11,6 +11,7 @@ from .values import single, whole
 
 RISING, BEYOND, CROSSED, BLANK = "rising", "beyond", "crossed", "blank"
 KINDS = {1: RISING, 2: BEYOND, 3: CROSSED, 4: BLANK}
+TRUSTS = {1: "sure", 2: "turned", 3: "unknown"}
 
 
 class Reading(NamedTuple):
@@ -22,6 +23,17 @@ class Reading(NamedTuple):
     kind: str
     t: Optional[float] = None
     product: Optional[float] = None
+
+
+class FaceTrust(NamedTuple):
+    """A face answer, and whether it is the true join, that of the values as exact numbers: its trust.
+
+    'sure': it is, or the exact numbers are a tie too. 'turned': they join the other two corners. 'unknown': the four
+    values do not alternate, or the magnitude of one is not from 1e-6 as an f32 to 2^63.
+    """
+
+    answer: bool
+    trust: str
 
 
 class Family(NamedTuple):
@@ -85,6 +97,24 @@ def test_face(corners: Iterable[float], face: int) -> bool:
     said = loaded().mc33_face(_cube(corners), whole("face", face))
     _look_at(said.refusal)
     return bool(said.answer == 1)
+
+
+def trust_face(corners: Iterable[float], face: int) -> FaceTrust:
+    """Tests a face as `test_face` does, and tells whether the answer is the true join. Raises Refused 4, then 3.
+
+    Let a, b, c, d be the values round the face and E = a×c - b×d, exact and not rounded: the true answer is True where
+    face × a × E is above 0, and False where it is below. The face test rounds; below 2^-23 it has a tie, which goes by
+    the face number's sign. So at ties, and nowhere else, an answer may be turned.
+
+    Proved, of values that alternate with magnitudes from 1e-6 as an f32 to 2^63: it is sure where |E| is at least 2^-22
+    and at least 2^-22 × (|a×c| + |b×d|), and where the answer is no tie. A choice goes by the answer, turned or not,
+    and so do both cubes that meet at the face: there is no slot.
+    """
+    said = loaded().mc33_trust_face(_cube(corners), whole("face", face))
+    _look_at(said.refusal)
+    if said.trust not in TRUSTS:
+        raise ValueError(f"the library gave a trust {said.trust}, which this version does not know")
+    return FaceTrust(said.answer == 1, TRUSTS[said.trust])
 
 
 def read_edge(corners: Iterable[float], edge: int) -> Reading:

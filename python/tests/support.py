@@ -5,6 +5,8 @@ import sys
 import unittest
 from pathlib import Path
 
+import mc33
+
 try:
     import numpy
 except ImportError:
@@ -21,6 +23,14 @@ ROWS = bytes([4, 0, 0, 0, 0, 1, 6, 0, 0, 6, 0, 3, 255, 0, 5, 0, 0, 6])
 ROWS_BY_SIGNS = ROWS[:12] + bytes(6)
 
 needs_numpy = unittest.skipUnless(numpy, "numpy is not there")
+
+
+def said(routine, *arguments):
+    """The answer, or the refusal's number."""
+    try:
+        return routine(*arguments)
+    except mc33.Refused as refused:
+        return refused.number
 
 
 def run(*arguments, timeout=120, library=None, path=PACKAGE, LD_LIBRARY_PATH="", **others):

@@ -92,7 +92,7 @@ class Done(Command):
     def test_help_and_version(self):
         for words, *arguments in (
                 (b"list", "--help"), (b"list-signs", "--help"), (b"numbers", "list", "--help"),
-                (b"above 0", "list-signs", "--help"), (b"mc33 5.1.0\n", "--version")):
+                (b"above 0", "list-signs", "--help"), (b"mc33 5.2.0\n", "--version")):
             ended = run("-m", "mc33", *arguments, library="/nowhere")
             self.assertEqual((ended.returncode, ended.stderr), (0, b""))
             self.assertIn(words, ended.stdout)

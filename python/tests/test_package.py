@@ -32,7 +32,7 @@ class Package(unittest.TestCase):
             self.assertTrue(hasattr(mc33, name), name)
         public = {name for name, value in vars(mc33).items() if name[0] != "_" and not inspect.ismodule(value)}
         self.assertEqual(public, set(mc33.__all__))
-        self.assertEqual(mc33.__version__, "5.1.0")
+        self.assertEqual(mc33.__version__, "5.2.0")
 
     def test_hints_and_words(self):
         self.assertTrue((Path(mc33.__file__).parent / "py.typed").exists())
@@ -95,10 +95,11 @@ class Library(unittest.TestCase):
             self.assertRegex(self.said(made), words)
 
     def test_an_earlier_minor_version(self):
-        later = "mc33_family_of", "mc33_choose_signs", "mc33_list_signs"
-        others = "".join(f"void {name}(void) {{}}\n" for name in FUNCTIONS if name not in later)
-        words = rf"made\.so has no mc33_family_of.* before version {VERSION}\. .*install\.sh"
-        self.assertRegex(self.said(self.made(others)), words)
+        later, latest = ("mc33_family_of", "mc33_choose_signs", "mc33_list_signs"), ("mc33_trust_face",)
+        for missing in later + latest, latest:
+            others = "".join(f"void {name}(void) {{}}\n" for name in FUNCTIONS if name not in missing)
+            words = rf"made\.so has no {missing[0]}, .* before version {VERSION}\. .*install\.sh"
+            self.assertRegex(self.said(self.made(others)), words)
 
     def test_a_later_minor_version(self):
         others = "".join(f"void {name}(void) {{}}\n" for name in FUNCTIONS if name != "mc33_version")

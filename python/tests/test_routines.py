@@ -8,9 +8,9 @@ from unittest import mock
 
 import mc33
 from mc33 import routines
-from mc33.library import ChoiceRecord, EdgeRecord, FaceRecord
+from mc33.library import ChoiceRecord, EdgeRecord, FaceRecord, FaceTrustRecord
 
-from .support import LEVEL, TIED, needs_numpy, numpy
+from .support import LEVEL, TIED, needs_numpy, numpy, said
 
 # Document 01, 'Cubes to check by hand': case, configuration, corners that are not the last number, name, row, and
 # unsettled where it is said there or in document 02, Change 2; then readings by Change 7. A diagonal matches in each
@@ -33,14 +33,6 @@ BY_HAND = [
     (13, 0, {0: 1, 2: 1, 5: 1, 7: 1}, -2, "13_1", 0, None, 6),
 ]
 WITH_CENTRE = {"7_3", "10_2", "10_2_", "12_2", "12_2_", "13_3", "13_3_", "13_4"}
-
-
-def said(routine, *arguments):
-    """The answer, or the refusal's number."""
-    try:
-        return routine(*arguments)
-    except mc33.Refused as refused:
-        return refused.number
 
 
 class Choose(unittest.TestCase):
@@ -144,6 +136,13 @@ class Choose(unittest.TestCase):
             library.mc33_face.return_value = FaceRecord(11)
             with self.assertRaisesRegex(mc33.Refused, "refused 11"):
                 mc33.test_face(TIED, 1)
+            for trust in 0, 4, 255:
+                library.mc33_trust_face.return_value = FaceTrustRecord(0, 1, trust)
+                with self.assertRaisesRegex(ValueError, f"trust {trust}"):
+                    mc33.trust_face(TIED, 1)
+            library.mc33_trust_face.return_value = FaceTrustRecord(11)
+            with self.assertRaisesRegex(mc33.Refused, "refused 11"):
+                mc33.trust_face(TIED, 1)
 
 
 class Signs(unittest.TestCase):
@@ -226,6 +225,7 @@ class Unfit(unittest.TestCase):
                 ("corner_set is -1", mc33.family_of, -1),
                 (r"corners\[0\] is 1e\+39, .*f32", mc33.choose_signs, [1e39] + TIED[1:]),
                 ("face is 261", mc33.test_face, TIED, 261),
+                ("face is -129", mc33.trust_face, TIED, -129),
                 ("edge is 256", mc33.read_edge, TIED, 256),
                 (r"bits is 4294967296, .*0\.\.4294967295", mc33.root_bits, 2**32),
                 ("bits is -1", mc33.root_bits, -1),

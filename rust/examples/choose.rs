@@ -2,7 +2,8 @@
 //! prints.
 use mc33::{
     choose, choose_list, choose_list_signs, choose_signs, family_of, read_edge, root, root_bits,
-    test_face, Choice, Cube, Family, ListRefused, Reading, Refusal, ROW_BYTES,
+    test_face, trust_face, Choice, Cube, FaceTrust, Family, ListRefused, Reading, Refusal, Trust,
+    ROW_BYTES,
 };
 
 fn print_said(said: Result<Choice, Refusal>) {
@@ -41,6 +42,18 @@ fn print_face(cube: Cube, face: i8) {
     match test_face(cube, face) {
         Ok(answer) => println!("face {face}: {answer}"),
         Err(refusal) => println!("face {face}: refused {}", refusal.number()),
+    }
+}
+
+fn print_trust(cube: Cube, face: i8) {
+    let words = |trust| match trust {
+        Trust::Sure => "sure",
+        Trust::Turned => "turned",
+        Trust::Unknown => "unknown",
+    };
+    match trust_face(cube, face) {
+        Ok(FaceTrust { answer, trust }) => println!("trust {face}: {answer}, {}", words(trust)),
+        Err(refusal) => println!("trust {face}: refused {}", refusal.number()),
     }
 }
 
@@ -86,6 +99,7 @@ fn print_lists(corners: &[f32], numbers: &[i8]) {
 fn main() {
     let tied = Cube([1.0, -1.0, 1.0, -1.0, -1.0, -1.0, -1.0, -1.0]);
     let apart = Cube([1.0, -2.0, 1.0, -2.0, -1.0, -1.0, -1.0, -1.0]);
+    let thin = Cube([1e-4, -2e-4, 1e-4, -2e-4, -1.0, -1.0, -1.0, -1.0]);
     let level = Cube([3.0, -1.0, -1.0, -1.0, -1.0, -1.0, 3.0, -1.0]);
     let steep = Cube([9.0, -1.0, -1.0, -1.0, -1.0, -1.0, 9.0, -1.0]);
     let flat = Cube([1.0; 8]);
@@ -110,6 +124,11 @@ fn main() {
     print_face(tied, 5);
     print_face(tied, -5);
     print_face(tied, 0);
+    print_trust(apart, 5);
+    print_trust(thin, 5);
+    print_trust(thin, -5);
+    print_trust(flat, 5);
+    print_trust(tied, 0);
     print_edge(level, 0);
     print_edge(steep, 8);
     print_edge(tied, 0);

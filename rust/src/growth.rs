@@ -57,6 +57,20 @@ struct Answers;
 /// ```
 struct Families;
 
+/// So is a face answer with its trust, and there are three trusts: no arm for others.
+///
+/// ```
+/// use mc33::{FaceTrust, Trust};
+/// let FaceTrust { answer, trust } = FaceTrust { answer: true, trust: Trust::Turned };
+/// let truth = match trust {
+///     Trust::Sure => Some(answer),
+///     Trust::Turned => Some(!answer),
+///     Trust::Unknown => None,
+/// };
+/// assert_eq!(truth, Some(false));
+/// ```
+struct Trusts;
+
 /// Both ways to be no row, and an arm for later ones.
 ///
 /// ```

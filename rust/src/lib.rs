@@ -35,10 +35,10 @@ pub use choice::{rows, Choice, NotARow, Tiling, ROW_BYTES};
 pub use library::{Cube, Family};
 pub use refusal::{ListRefused, Refusal};
 
-use library::{Mc33Choice, Mc33Edge, Mc33Face, Mc33Outcome};
+use library::{Mc33Choice, Mc33Edge, Mc33Face, Mc33Outcome, Mc33Trust};
 
 /// The version of the library that this crate was written for: (major, minor).
-pub const VERSION: (u32, u32) = (5, 1);
+pub const VERSION: (u32, u32) = (5, 2);
 
 /// The version of the library that is linked: (major, minor).
 ///
@@ -189,11 +189,80 @@ pub fn test_face(cube: Cube, face: i8) -> Result<bool, Refusal> {
 
 fn face_said(said: Mc33Face) -> Result<bool, Refusal> {
     refusal::answered(said.refusal.into())?;
-    match said.answer {
+    answer_said(said.answer)
+}
+
+fn answer_said(answer: u8) -> Result<bool, Refusal> {
+    match answer {
         0 => Ok(false),
         1 => Ok(true),
         _ => Err(refusal::NO_NAME),
     }
+}
+
+/// Whether a face answer is the true join, that of the values as exact numbers: one of these three, so a match needs no
+/// arm for others. [`trust_face`] has what is proved of it.
+#[derive(Clone, Copy, Debug, PartialEq, Eq, Hash)]
+pub enum Trust {
+    /// It is, or the exact numbers are a tie too.
+    Sure,
+    /// The exact numbers join the other two corners: the rounded ones were a tie, which goes by the face number's sign.
+    Turned,
+    /// The four values do not alternate, or the magnitude of one is not from 1e-6 as an f32 to 2^63.
+    Unknown,
+}
+
+/// A face answer with its trust.
+#[derive(Clone, Copy, Debug, PartialEq, Eq, Hash)]
+pub struct FaceTrust {
+    /// What [`test_face`] answers.
+    pub answer: bool,
+    /// Whether that is the true join.
+    pub trust: Trust,
+}
+
+/// Tests a face as [`test_face`] does, and tells whether the answer is the true join.
+///
+/// Let a, b, c, d be the values round the face and E = a×c - b×d, exact and not rounded: the true answer is `true`
+/// where face × a × E is above 0, and `false` where it is below. The face test rounds; below 2^-23 it has a tie, which
+/// goes by the face number's sign. So at ties, and nowhere else, an answer may be turned.
+///
+/// Proved, of values that alternate with magnitudes from 1e-6 as an f32 to 2^63: it is sure where |E| is at least 2^-22
+/// and at least 2^-22 × (|a×c| + |b×d|), and where the answer is no tie. A choice goes by the answer, turned or not,
+/// and so do both cubes that meet at the face: there is no slot.
+///
+/// # Errors
+///
+/// [`Refusal::NoFace`], then [`Refusal::NotFinite`].
+///
+/// ```
+/// use mc33::{trust_face, Cube, FaceTrust, Refusal, Trust::*};
+/// // Corners 0 to 3 are those of face 5.
+/// let trusted = |corners: [f32; 4]| {
+///     let mut cube = Cube([-1.0; 8]);
+///     cube.0[..4].copy_from_slice(&corners);
+///     trust_face(cube, 5).map(|FaceTrust { answer, trust }| (answer, trust))
+/// };
+/// assert_eq!(trusted([1.0, -2.0, 1.0, -2.0]), Ok((false, Sure)));
+/// assert_eq!(trusted([1.0, -1.0, 1.0, -1.0]), Ok((true, Sure)));
+/// // The first again, ten thousand times smaller: the products are 1e-8 and 4e-8, which the face test takes for a tie.
+/// assert_eq!(trusted([1e-4, -2e-4, 1e-4, -2e-4]), Ok((true, Turned)));
+/// assert_eq!(trusted([1.0; 4]), Ok((true, Unknown)));
+/// assert_eq!(trust_face(Cube([1.0; 8]), 7), Err(Refusal::NoFace));
+/// ```
+pub fn trust_face(cube: Cube, face: i8) -> Result<FaceTrust, Refusal> {
+    trust_said(library::trust_face(cube, face))
+}
+
+fn trust_said(said: Mc33Trust) -> Result<FaceTrust, Refusal> {
+    refusal::answered(said.refusal.into())?;
+    let trust = match said.trust {
+        1 => Trust::Sure,
+        2 => Trust::Turned,
+        3 => Trust::Unknown,
+        _ => return Err(refusal::NO_NAME),
+    };
+    answer_said(said.answer).map(|answer| FaceTrust { answer, trust })
 }
 
 /// What is read at an edge: one of these four, so a match needs no arm for others.

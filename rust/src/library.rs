@@ -37,6 +37,14 @@ pub struct Mc33Face {
 
 #[derive(Clone, Copy, Debug, PartialEq)]
 #[repr(C)]
+pub struct Mc33Trust {
+    pub refusal: u8,
+    pub answer: u8,
+    pub trust: u8,
+}
+
+#[derive(Clone, Copy, Debug, PartialEq)]
+#[repr(C)]
 pub struct Mc33Edge {
     pub refusal: u8,
     pub kind: u8,
@@ -56,6 +64,7 @@ extern "C" {
     fn mc33_family_of(set: u8) -> Family;
     fn mc33_choose_signs(cube: Cube) -> Mc33Choice;
     fn mc33_face(cube: Cube, face: i8) -> Mc33Face;
+    fn mc33_trust_face(cube: Cube, face: i8) -> Mc33Trust;
     fn mc33_edge(cube: Cube, edge: i8) -> Mc33Edge;
     fn mc33_root(x: f32) -> f32;
     fn mc33_root_bits(bits: u32) -> u32;
@@ -94,6 +103,10 @@ pub fn choose_signs(cube: Cube) -> Mc33Choice {
 
 pub fn face(cube: Cube, face: i8) -> Mc33Face {
     unsafe { mc33_face(cube, face) }
+}
+
+pub fn trust_face(cube: Cube, face: i8) -> Mc33Trust {
+    unsafe { mc33_trust_face(cube, face) }
 }
 
 pub fn edge(cube: Cube, edge: i8) -> Mc33Edge {

@@ -65,6 +65,12 @@ fn an_unknown_refusal_keeps_its_number() {
     let unknown = Refusal::Unknown { number: 12 };
     assert_eq!(choice_said(Mc33Choice { refusal, ..PLAIN }), Err(unknown));
     assert_eq!(face_said(Mc33Face { refusal, answer: 1 }), Err(unknown));
+    let trusted = Mc33Trust {
+        refusal,
+        answer: 1,
+        trust: 1,
+    };
+    assert_eq!(trust_said(trusted), Err(unknown));
     let edge = Mc33Edge {
         refusal,
         kind: 1,
@@ -189,6 +195,65 @@ fn a_face_answer_without_a_name_is_refused() {
     let said = |answer| face_said(Mc33Face { refusal: 0, answer });
     assert_eq!([0, 1].map(said), [Ok(false), Ok(true)]);
     assert_eq!(said(2), Err(NO_NAME));
+}
+
+#[test]
+fn a_trust_without_a_name_is_refused() {
+    let said = |answer, trust| {
+        trust_said(Mc33Trust {
+            refusal: 0,
+            answer,
+            trust,
+        })
+    };
+    let trusted = |answer| {
+        [Trust::Sure, Trust::Turned, Trust::Unknown].map(|trust| Ok(FaceTrust { answer, trust }))
+    };
+    assert_eq!([1, 2, 3].map(|trust| said(0, trust)), trusted(false));
+    assert_eq!([1, 2, 3].map(|trust| said(1, trust)), trusted(true));
+    assert_eq!([0, 4, 255].map(|trust| said(1, trust)), [Err(NO_NAME); 3]);
+    assert_eq!(said(2, 1), Err(NO_NAME));
+}
+
+/// A cube with these bits in corners 0, 3, 2 and 1, which are a, b, c and d of face 5.
+fn at_face_5([a, b, c, d]: [u32; 4]) -> Cube {
+    let mut cube = Cube([-1.0; 8]);
+    for (corner, bits) in [(0, a), (3, b), (2, c), (1, d)] {
+        cube.0[corner] = f32::from_bits(bits);
+    }
+    cube
+}
+
+/// Each has one that Change 6 asks for, and not the other: both products round to one number, or nearly.
+#[test]
+fn a_tie_may_be_turned() {
+    for bits in [
+        [0xba00_0000, 0x3980_0000, 0xb980_0000, 0x3980_0000],
+        [0xbf0a_aaaf, 0x3f3b_1287, 0xbeec_4ec4, 0x3eaf_2982],
+        [0xc504_5000, 0x42e2_0000, 0xc5f7_a800, 0x4810_fdc0],
+    ] {
+        for face in [5, -5] {
+            let said = trust_face(at_face_5(bits), face);
+            let (answer, trust) = (face > 0, Trust::Turned);
+            assert_eq!(said, Ok(FaceTrust { answer, trust }));
+        }
+    }
+}
+
+#[test]
+fn a_trusted_answer_is_that_of_the_face() {
+    let mut infinite = Cube([1.0; 8]);
+    infinite.0[7] = f32::INFINITY;
+    for cube in (0..=255).flat_map(|set| [-2.0, -0.0].map(|off| cube_of(set, off))) {
+        for face in i8::MIN..=i8::MAX {
+            let said = trust_face(cube, face);
+            assert_eq!(said.map(|said| said.answer), test_face(cube, face));
+        }
+    }
+    for face in i8::MIN..=i8::MAX {
+        let refused = trust_face(infinite, face).unwrap_err();
+        assert_eq!(Err(refused), test_face(infinite, face));
+    }
 }
 
 #[test]
