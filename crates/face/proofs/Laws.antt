@@ -35,7 +35,7 @@ beq_not true false = refl
 beq_not false true = refl
 beq_not false false = refl
 
-other_face : (n : ℤ) → T (is_face n) → T (is_face (neg_ℤ n)) × (is_positive (neg_ℤ n) ≡ not (is_positive n))
+pub other_face : (n : ℤ) → T (is_face n) → T (is_face (neg_ℤ n)) × (is_positive (neg_ℤ n) ≡ not (is_positive n))
 other_face (pos zero) t = absurd t
 other_face (pos (suc m)) t = (t, ap not (sym (lt-ltb 0 (suc m) (zero-lt-suc m))))
 other_face (negsuc m) t = (t, lt-ltb 0 (suc m) (zero-lt-suc m))

@@ -82,7 +82,7 @@ agreeing n A B C D r e = ap (λ (x : Bool). not (eqb (nat_abs (e_of A B C D)) 0)
     nothing true = refl
     nothing false = refl
 
-alternating : (n : ℤ) (s : Square) (r : Bool) → T (alternate s.a s.b s.c s.d) → trust_of n s r ≡ cond (turned_of n s r) Turned Sure
+pub alternating : (n : ℤ) (s : Square) (r : Bool) → T (alternate s.a s.b s.c s.d) → trust_of n s r ≡ cond (turned_of n s r) Turned Sure
 unfolding trust_of
 alternating n s r t = go (alternate s.a s.b s.c s.d) t
   where
@@ -103,7 +103,7 @@ module _ (n : ℤ) (s : Square) (r : Bool) (t : Trust) (e : t ≡ trust_of n s r
       go true h = inr tt
       go false h = inl h
 
-  by_trust : T (alternate s.a s.b s.c s.d) → t ≡ cond (turned_of n s r) Turned Sure
+  pub by_trust : T (alternate s.a s.b s.c s.d) → t ≡ cond (turned_of n s r) Turned Sure
   by_trust u = e ∙ alternating n s r u
 
 turned_false : (b : Bool) (t : Trust) → t ≡ cond b Turned Sure → t ≡ Sure → b ≡ false

@@ -1,5 +1,5 @@
 -- Document 02, Change 6, told of one face: whether its answer is the true join. Each value is a whole number over 2 ^ 149, so E is exact. Definitions only.
-use Rattle.std.specs.Prelude.{◌≡◌, ℕ, Bool, true, false, cond, not, ◌&&◌, eqb, T, ℤ, nat_abs, Result, Ok, Err}
+use Rattle.std.specs.Prelude.{◌≡◌, ℕ, Bool, true, false, cond, not, ◌&&◌, eqb, T, ℤ, neg_ℤ, nat_abs, Result, Ok, Err}
 use Rattle.std.specs.Bool.{beq}
 use Rattle.std.specs.Float.{binary32}
 use Rattle.std.specs.Float.Ieee.{low}
@@ -62,6 +62,12 @@ pub record Means (n : ℤ) (s : Square) (r : Bool) (t : Trust) : Type 0 where
   pub turned : (k : ℕ) (A B C D : ℤ) → Over k s.a s.b s.c s.d A B C D → t ≡ Turned → otherwise n A B C D r ≡ true
   pub wholes : T (alternate s.a s.b s.c s.d) → OverWholes s
 
+-- one trust for a face, whichever of its two cubes is asked and with either sign, as the answers agree: the values turned round, d, c, b, a, as the other cube reads
+-- them where faces 1 and 3 or 2 and 4 meet, have it too, and so has the number with the other sign, whose answer is the other one
+pub record OneTrust (n : ℤ) (s : Square) (r : Bool) (t : Trust) : Type 0 where
+  pub turned_round : T (alternate s.a s.b s.c s.d) → t ≡ trust_of n (record { a = s.d; b = s.c; c = s.b; d = s.a }) r
+  pub other_sign : T (alternate s.a s.b s.c s.d) → t ≡ trust_of (neg_ℤ n) s (not r)
+
 abbrev pub OfTold : (Bool → Trust → Type 0) → Said → Type 0
 OfTold P (told r t) = P r t
 OfTold P (refused why) = Unit {0}
@@ -71,3 +77,6 @@ SureWhereOf q n = OfTold (λ r. SureWhere (square_of q n))
 
 abbrev pub MeansOf : Cube → ℤ → Said → Type 0
 MeansOf q n = OfTold (Means n (square_of q n))
+
+abbrev pub OneTrustOf : Cube → ℤ → Said → Type 0
+OneTrustOf q n = OfTold (OneTrust n (square_of q n))

@@ -9,7 +9,7 @@ ghost use Rattle.binary32.specs.Wholes.{Exactly, whole_of};
 ghost use Rattle.face.specs.Face.{is_face};
 ghost use Rattle.face.specs.Laws.{alternate};
 ghost use Rattle.face.specs.Columns.{square_of};
-ghost use Rattle.trust.specs.Trust.{turned_of, trust_of, said, trust_face_of, OverWholes, SureWhereOf, MeansOf};
+ghost use Rattle.trust.specs.Trust.{turned_of, trust_of, said, trust_face_of, OverWholes, SureWhereOf, MeansOf, OneTrustOf};
 
 use cube::{Cube, Face, Refusal};
 use face::{Square, alternates, square_of, test_face};
@@ -72,11 +72,12 @@ fn trust_of(face: Face, s: Square, answer: bool) -> Trust
 }
 
 // The answer of the face test, with whether it is the true join: refusal 4, then 3, as there.
-#[tactic(auto, using(crate::proofs::Trusting::answered_face, crate::proofs::Trusting::by_refusal, crate::proofs::Trusting::sure_at, crate::proofs::Trusting::means_at))]
+#[tactic(auto, using(crate::proofs::Trusting::answered_face, crate::proofs::Trusting::by_refusal, crate::proofs::Trusting::sure_at, crate::proofs::Trusting::means_at, crate::proofs::Sides::one_at))]
 pub fn trust_face(q: Cube, face: Face) -> Result<FaceTrust, Refusal>
     ensures result { said result ≡ trust_face_of q face.0 }
     ensures sure { SureWhereOf q face.0 (said result) }
     ensures means { MeansOf q face.0 (said result) }
+    ensures one { OneTrustOf q face.0 (said result) }
 {
     let answer = test_face(q, face)?;
     let trust = trust_of(face, square_of(q, face), answer);
