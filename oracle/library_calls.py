@@ -11,13 +11,14 @@ mc33's sample: CHOICES, held to crates/mc33/stdout, and by signs SIGNS, which ta
 Families are worked out here from the rule of document 02's Change 1, and held to crates/set_families/stdout, which is
 made from CASES. Lists, refusals, face tests, edge readings and roots are worked out here from document 01's text. Each
 operation is made in binary64 and rounded to binary32, which for +, -, ×, / and the root of normal results is the same
-as rounding once.
+as rounding once. Whether a face answer is the true join is worked out in fractions, from document 02's Change 6.
 """
 import math
 import pathlib
 import re
 import struct
 import sys
+from fractions import Fraction
 
 CRATES = pathlib.Path(__file__).resolve().parent.parent / 'crates'
 INF, NAN, STEP = math.inf, math.nan, 2.0 ** -23
@@ -416,6 +417,94 @@ def faces():
     face(6, corners({1: INF}), (3, 0))
 
 
+# ---- whether a face answer is the true join: document 02, Change 6, in exact fractions
+LEAST, MOST = Fraction(value('358637bd')), 2 ** 63
+SURE, TURNED, UNKNOWN = 1, 2, 3
+
+
+def trust_answer(n, cube):
+    why, answer = face_answer(n, cube)
+    if why:
+        return why, 0, 0
+    a, b, c, d = (Fraction(cube[k]) for k in FACES[abs(n)])
+    if not (a * c > 0 and b * d > 0 and a * b < 0 and all(LEAST <= abs(x) <= MOST for x in (a, b, c, d))):
+        return 0, answer, UNKNOWN
+    e, s = a * c - b * d, abs(a * c) + abs(b * d)
+    right = e == 0 or answer == int(n * a * e >= 0)
+    assert right or abs(e) * 2 ** 22 < max(1, s), 'Change 6'
+    return 0, answer, SURE if right else TURNED
+
+
+def trust(n, cube, *expected):
+    answer = trust_answer(n, cube)
+    assert expected in ((), answer[1:]), (n, cube, answer)
+    say('t ' + line(n, 0, cube), 't {} {} {}'.format(*answer))
+
+
+# A cube with a, b, c, d at face 5.
+def square(a, b, c, d):
+    return corners({0: a, 3: b, 2: c, 1: d})
+
+
+# By face 5 and by -5, with the answers.
+def trust_both(cube, *expected):
+    for n, answer in zip((5, -5), expected):
+        trust(n, cube, *answer)
+
+
+def trusts():
+    note('trust: sure, of either answer; E exactly 0; a tie, but right')
+    trust_both(square(2, -1, 2, -1), (1, SURE), (0, SURE))
+    for values in (-2, 1, -2, 1), (1, -2, 1, -2):
+        trust_both(square(*values), (0, SURE), (1, SURE))
+    for values in (1, -1, 1, -1), (2, -6, 3, -1):
+        trust_both(square(*values), (1, SURE), (0, SURE))
+    trust_both(square(1, STEP / 2 - 1, 1, -1), (1, SURE), (0, SURE))
+    def ties(*texts):
+        for text in texts:
+            values = [value(pattern) for pattern in text.split()]
+            trust_both(square(*values), (1, TURNED), (0, TURNED))
+            trust(5, square(*(-x for x in values)), 1, SURE)
+    note('turned, and sure with all signs turned: |E| at least 2^-22 of S')
+    ties('ba000000 39800000 b9800000 39800000', 'bf0aaaaf 3f3b1287 beec4ec4 3eaf2982',
+         'be2aaaae 3e18e34f bfc00000 3fd653af')
+    note('the same with |E| at least 2^-22: S / |E| is 2^24 + 8 and + 4')
+    ties('c5045000 42e20000 c5f7a800 4810fdc0', 'c0400000 44c1a000 caaaaaae 46293c00')
+    note('val -2^-23 is no tie, -2^-24 is one')
+    trust_both(square(1, -1 - STEP, 1, -1), (0, SURE), (1, SURE))
+    trust_both(square(1, -1, 1 - STEP / 2, -1), (1, TURNED), (0, TURNED))
+    note('|E| exactly 2^-22, and exactly 2^-22 of S')
+    trust_both(square(-2.0 ** -10, 2.0 ** -10, -2.0 ** -11, 2.0 ** -12), (0, SURE), (1, SURE))
+    trust_both(square(-2 ** 22 - 1, 2 ** 22 - 1, -1, 1), (0, SURE), (1, SURE))
+    note('each face, turned or a tie that is right')
+    for sign in 1, -1:
+        low = sign * (1 - STEP / 2)
+        cube = [low, -sign, sign, -sign, -sign, sign, -low, sign]
+        for n in (*FACES, *(-n for n in FACES)):
+            trust(n, cube)
+    note('unknown: the signs do not alternate; zeros')
+    for values in (2, 1, 2, 1), (2, -1, -2, -1), (2, -1, 2, 1), (-2, -1, -2, -1), (0.0, -1, 1, -1), (1, -1, 1, -0.0):
+        trust(5, square(*values))
+    note('the ends of the range, and for a, b, c and d the values past')
+    ends = [value(pattern) for pattern in ('358637bd', '5f000000', '358637bc', '5f000001')]
+    for end in ends[:2]:
+        trust_both(square(end, -end, end, -end), (1, SURE), (0, SURE))
+    for place in range(4):
+        for end in ends:
+            values = [1.0, -1.0, 1.0, -1.0]
+            values[place] *= end
+            trust(5, square(*values), int((end > 1) == (place % 2 == 0)), SURE if end in ends[:2] else UNKNOWN)
+    note('out of the range the answer may be wrong and no tie')
+    trust(5, square(*(value(pattern) for pattern in '00000001 ba800000 00000001 ba000000'.split())), 1, UNKNOWN)
+    note('4, 4 before 3, 3 on the face and off it')
+    for n in 0, 7, -7, 127, -128:
+        trust(n, corners({0: 2, 2: 2}))
+    trust(0, corners({0: NAN}))
+    trust(-7, corners({6: INF}))
+    for number, bad in (0, NAN), (3, -INF), (4, INF), (6, NAN):
+        trust(-5, corners({0: 2, 2: 2, number: bad}))
+
+
 # ---- an edge reading, by its rule: move k goes from the first corner to the second
 MOVES = ['10 54 67 23', '23 10 54 67', '32 76 45 01', '01 32 76 45', '12 03 47 56', '03 12 56 47',
          '30 74 65 21', '21 30 74 65', '04 37 26 15', '15 04 37 26', '26 15 04 37', '37 26 15 04']
@@ -515,6 +604,7 @@ def main():
     readings_of_a_case(sampled)
     refusals_of_a_cube()
     faces()
+    trusts()
     readings()
     roots()
     release()

@@ -2,7 +2,7 @@
 // Then standard input has a call a line; a line with a cube has it as the text program's lines do, behind a letter
 // and a space:
 //   c: `mc33_choose`, by the case and the configuration; the cube is held, behind those held before
-//   f: `mc33_face`, and e: `mc33_edge`, of the number that stands for the case
+//   f: `mc33_face`, t: `mc33_trust_face`, and e: `mc33_edge`, of the number that stands for the case
 //   r: `mc33_root` of c0, and `mc33_root_bits` of its bits
 //   s: `mc33_choose_signs`; the cube is held too
 //   l VALUES NUMBERS BYTES: `mc33_list` of so many values and numbers of the cubes held, and zeros behind them, with
@@ -15,8 +15,8 @@
 //
 // The answers in `stdout` come from outside, by oracle/library_calls.py, which knows nothing of this code: the version
 // is the header's; choices are document 01's own for its cubes and the Rust's for the cubes of mc33's sample, by signs
-// with the source's CASES; families are worked out from the rule of document 02, 'Change 1'; lists, refusals, faces,
-// readings and roots from document 01's text.
+// with the source's CASES; families are worked out from the rule of document 02, 'Change 1', and the trust of a face
+// answer from 'Change 6', in exact fractions; lists, refusals, faces, readings and roots from document 01's text.
 #![tactic(auto)]
 
 ghost use Rattle.std.specs.Prelude.{◌≤◌, length};
@@ -88,6 +88,7 @@ impl Held {
         };
         match text[0] {
             b'f' => face(rt, line.case, line.cube),
+            b't' => trust(rt, line.case, line.cube),
             b'e' => edge(rt, line.case, line.cube),
             b'r' => root(
                 rt,
@@ -201,6 +202,11 @@ fn choose(rt: &impl Print, letter: u8, line: line::Line) -> io::Result<()> {
 fn face(rt: &impl Print, face: i8, q: Cube) -> io::Result<()> {
     let r = mc33_c::mc33_face(q, face);
     println!(rt; "f {} {}", r.refusal, r.answer)
+}
+
+fn trust(rt: &impl Print, face: i8, q: Cube) -> io::Result<()> {
+    let r = mc33_c::mc33_trust_face(q, face);
+    println!(rt; "t {} {} {}", r.refusal, r.answer, r.trust)
 }
 
 fn edge(rt: &impl Print, edge: i8, q: Cube) -> io::Result<()> {
