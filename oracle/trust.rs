@@ -2,11 +2,13 @@
 //
 //   N SEED   compares the two on about N faces, 200000000 and 1 without the words, and counts what the faces met; the
 //            answer is also held to the library's face test and to the rule in f32
+//   speed    a row of the speed of both, the other one plain Rust, which compares the products in f64, by processor time
 //
 // With a, b, c, d the corners of the face, E is a×c - b×d and S is |a×c| + |b×d|. Each product of two f32 is a whole
 // number over 2^298, so E and S are made and compared here as whole numbers of 640 bits, without rounding.
 use std::array::from_fn;
 use std::cmp::Ordering::{self, Equal, Greater};
+use std::hint::black_box;
 use std::sync::atomic::{AtomicU64, Ordering::Relaxed};
 use std::sync::LazyLock;
 
@@ -569,11 +571,103 @@ fn compare(faces: u64, seed: u64) -> Comparer {
     all
 }
 
+// ---- the speed
+
+#[repr(C)]
+struct Timespec {
+    seconds: i64,
+    nanoseconds: i64,
+}
+
+extern "C" {
+    fn clock_gettime(clock: i32, time: *mut Timespec) -> i32;
+}
+
+// Linux's CLOCK_THREAD_CPUTIME_ID
+const OF_THIS_THREAD: i32 = 3;
+
+// The processor time of this thread in nanoseconds: while another program has the core, it stands still.
+fn processor_time() -> i64 {
+    let mut time = Timespec { seconds: 0, nanoseconds: 0 };
+    assert_eq!(unsafe { clock_gettime(OF_THIS_THREAD, &mut time) }, 0, "no clock of processor time");
+    time.seconds * 1_000_000_000 + time.nanoseconds
+}
+
+// The same in plain Rust; called as the library is.
+#[inline(never)]
+extern "C" fn plain(Cube(corners): Cube, face: i8) -> FaceTrust {
+    if !is_face(face) {
+        return FaceTrust { refusal: 4, answer: 0, trust: 0 };
+    }
+    if !corners.iter().all(|corner| corner.is_finite()) {
+        return FaceTrust { refusal: 3, answer: 0, trust: 0 };
+    }
+    let values = FACES[face.unsigned_abs() as usize - 1].map(|corner| corners[corner]);
+    let answer = rule(face, values);
+    let trust = if by_turns(values) && values.iter().all(|&x| in_range(x)) {
+        let [a, b, c, d] = values.map(f64::from);
+        let (first, second) = (a * c, b * d);
+        let right = first == second || answer == ((face > 0) == ((a > 0.0) == (first > second)));
+        if right { SURE } else { TURNED }
+    } else {
+        UNKNOWN
+    };
+    FaceTrust { refusal: 0, answer: answer as u8, trust }
+}
+
+fn ours(cube: Cube, face: i8) -> FaceTrust {
+    unsafe { mc33_trust_face(cube, face) }
+}
+
+fn nanoseconds(faces: &[(Cube, i8)], told: impl Fn(Cube, i8) -> FaceTrust) -> f64 {
+    let start = processor_time();
+    for &(cube, face) in black_box(faces) {
+        black_box(told(cube, face));
+    }
+    (processor_time() - start) as f64 / faces.len() as f64
+}
+
+fn median(mut times: Vec<f64>) -> f64 {
+    times.sort_by(f64::total_cmp);
+    times[times.len() / 2]
+}
+
+// Corners from -1 to 1, and a face of each; `alternating` has the face's corners of two signs by turns.
+fn speed(name: &str, alternating: bool) {
+    let mut random = Random(33);
+    let faces: Vec<(Cube, i8)> = (0..32768)
+        .map(|_| {
+            let face: i8 = random.pick(&[-6, -5, -4, -3, -2, -1, 1, 2, 3, 4, 5, 6]);
+            let mut unit = || (random.next() >> 40) as f32 / 2f32.powi(24) + 2f32.powi(-19);
+            let sizes: [f32; 8] = from_fn(|_| unit());
+            let mut corners = sizes.map(|size| random.signed(size));
+            if alternating {
+                let at = FACES[face.unsigned_abs() as usize - 1];
+                let values = random.by_turns(at.map(|corner| sizes[corner]));
+                at.iter().zip(values).for_each(|(&corner, value)| corners[corner] = value);
+            }
+            (Cube(corners), face)
+        })
+        .collect();
+    let (mut mine, mut theirs) = (Vec::new(), Vec::new());
+    for _ in 0..101 {
+        mine.push(nanoseconds(&faces, ours));
+        theirs.push(nanoseconds(&faces, |cube, face| plain(cube, face)));
+    }
+    let (mine, theirs) = (median(mine), median(theirs));
+    println!("{name:<24}{mine:>9.1}{theirs:>9.1}{:>7.2}", mine / theirs);
+}
+
 fn main() {
+    if std::env::args().nth(1).as_deref() == Some("speed") {
+        speed("trust, alternating", true);
+        speed("trust, any signs", false);
+        return;
+    }
     let words: Vec<Option<u64>> = std::env::args().skip(1).map(|word| word.parse().ok()).collect();
     let word = |place: usize, otherwise| words.get(place).copied().unwrap_or(Some(otherwise));
     let (Some(faces), Some(seed)) = (word(0, 200_000_000), word(1, 1)) else {
-        eprintln!("N SEED");
+        eprintln!("N SEED, or speed");
         std::process::exit(1);
     };
     let all = compare(faces, seed);

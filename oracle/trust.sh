@@ -4,6 +4,7 @@
 #
 #   oracle/trust.sh
 #   oracle/trust.sh 20000000 2
+#   oracle/trust.sh speed
 set -euo pipefail
 cd "$(dirname "$0")/.."
 bin/archive.sh >&2
