@@ -1,6 +1,6 @@
-// The face test: document 01, 'Face test'. Public: `test_face`, which refuses, and `face_answer`, the
-// rule alone, for callers that have tested their cube and face; `size` and `place`, the face without its sign, and
-// `square_of`, the values at its corners.
+// The face test: document 01, 'Face test'; document 02, 'Change 6'. Public: `test_face`, which refuses, and
+// `face_answer`, the rule alone, for callers that have tested their cube and face; `size` and `place`, the face without
+// its sign, `square_of`, the values at its corners, and `alternates`, whether these are as term 3 and Change 6 have them.
 #![tactic(auto)]
 
 ghost use Rattle.std.specs.Prelude.{◌≡◌, ◌<◌, nat_abs};
@@ -95,6 +95,7 @@ fn up_and_down(a: f32, b: f32, c: f32, d: f32) -> bool
     in_range(a) & in_range(-b) & in_range(c) & in_range(-d)
 }
 
+// Whether the signs alternate, and each magnitude is in the range.
 #[tactic(auto, unfolding(crate::specs::Laws::alternate))]
 pub fn alternates(s: Square) -> bool
     ensures { result ≡ alternate s.a s.b s.c s.d }
