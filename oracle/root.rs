@@ -9,6 +9,9 @@
 #[path = "../rust/src/library.rs"]
 mod library;
 
+mod clock;
+
+use clock::{median, processor_time};
 use library::{root, root_bits};
 use std::collections::BTreeSet;
 use std::hint::black_box;
@@ -81,26 +84,6 @@ fn normals(n: usize) -> Vec<u32> {
     found
 }
 
-#[repr(C)]
-struct Timespec {
-    seconds: i64,
-    nanoseconds: i64,
-}
-
-extern "C" {
-    fn clock_gettime(clock: i32, time: *mut Timespec) -> i32;
-}
-
-// Linux's CLOCK_THREAD_CPUTIME_ID
-const OF_THIS_THREAD: i32 = 3;
-
-// The processor time of this thread in nanoseconds: while another program has the core, it stands still.
-fn processor_time() -> i64 {
-    let mut time = Timespec { seconds: 0, nanoseconds: 0 };
-    assert_eq!(unsafe { clock_gettime(OF_THIS_THREAD, &mut time) }, 0, "no clock of processor time");
-    time.seconds * 1_000_000_000 + time.nanoseconds
-}
-
 fn nanoseconds(patterns: &[u32], root: impl Fn(u32) -> u32) -> f64 {
     let start = processor_time();
     let mut mixed = 0;
@@ -111,11 +94,6 @@ fn nanoseconds(patterns: &[u32], root: impl Fn(u32) -> u32) -> f64 {
     }
     black_box(mixed);
     (processor_time() - start) as f64 / (64 * patterns.len()) as f64
-}
-
-fn median(mut times: Vec<f64>) -> f64 {
-    times.sort_by(f64::total_cmp);
-    times[times.len() / 2]
 }
 
 // Both are called once for each pattern, one after the other, and their results mixed by xor.

@@ -6,37 +6,19 @@
 //
 // With a, b, c, d the corners of the face, E is a×c - b×d and S is |a×c| + |b×d|. Each product of two f32 is a whole
 // number over 2^298, so E and S are made and compared here as whole numbers of 640 bits, without rounding.
+#[allow(dead_code)]
+#[path = "../rust/src/library.rs"]
+mod library;
+
+mod clock;
+
+use clock::{median, processor_time};
+use library::{Cube, Mc33Face, Mc33Trust};
 use std::array::from_fn;
 use std::cmp::Ordering::{self, Equal, Greater};
 use std::hint::black_box;
 use std::sync::atomic::{AtomicU64, Ordering::Relaxed};
 use std::sync::LazyLock;
-
-// ---- the library
-
-#[derive(Clone, Copy)]
-#[repr(C)]
-struct Cube([f32; 8]);
-
-#[derive(Clone, Copy, Debug, PartialEq)]
-#[repr(C)]
-struct Face {
-    refusal: u8,
-    answer: u8,
-}
-
-#[derive(Clone, Copy, Debug, PartialEq)]
-#[repr(C)]
-struct FaceTrust {
-    refusal: u8,
-    answer: u8,
-    trust: u8,
-}
-
-extern "C" {
-    fn mc33_face(cube: Cube, face: i8) -> Face;
-    fn mc33_trust_face(cube: Cube, face: i8) -> FaceTrust;
-}
 
 const SURE: u8 = 1;
 const TURNED: u8 = 2;
@@ -227,7 +209,7 @@ impl Comparer {
     // Refusals 4, then 3, or the answer with its trust.
     fn compare(&mut self, corners: [f32; 8], face: i8) {
         let spoilt = corners.iter().position(|&corner| !is_finite(corner));
-        let refused = |refusal| FaceTrust { refusal, answer: 0, trust: 0 };
+        let refused = |refusal| Mc33Trust { refusal, answer: 0, trust: 0 };
         let theirs = match spoilt {
             _ if !is_face(face) => {
                 self.counts[REFUSED_4 + face as u8 as usize * 2 + spoilt.is_some() as usize] += 1;
@@ -240,15 +222,15 @@ impl Comparer {
             }
             None => self.answer(FACES[face.unsigned_abs() as usize - 1].map(|corner| corners[corner]), face),
         };
-        let (face_answer, ours) = unsafe { (mc33_face(Cube(corners), face), mc33_trust_face(Cube(corners), face)) };
-        let alike = face_answer == Face { refusal: theirs.refusal, answer: theirs.answer };
+        let (face_answer, ours) = (library::face(Cube(corners), face), library::trust_face(Cube(corners), face));
+        let alike = face_answer == Mc33Face { refusal: theirs.refusal, answer: theirs.answer };
         if (ours != theirs || !alike) && DIFFERENCES.fetch_add(1, Relaxed) < 5 {
             let corners = corners.map(|corner| format!("{:08x}", corner.to_bits())).join(" ");
             println!("DIFFERS: face {face} corners {corners}: {ours:?} and {face_answer:?}; expected {theirs:?}");
         }
     }
 
-    fn answer(&mut self, values: [f32; 4], face: i8) -> FaceTrust {
+    fn answer(&mut self, values: [f32; 4], face: i8) -> Mc33Trust {
         let answer = rule(face, values);
         let trust = if by_turns(values) && values.iter().all(|&x| in_range(x)) {
             self.trust(values, face, answer)
@@ -257,7 +239,7 @@ impl Comparer {
         };
         self.counts[ANSWERED + of_face(face) * 6 + (trust as usize - 1) * 2 + answer as usize] += 1;
         self.past(values);
-        FaceTrust { refusal: 0, answer: answer as u8, trust }
+        Mc33Trust { refusal: 0, answer: answer as u8, trust }
     }
 
     // Of values that alternate in range.
@@ -573,34 +555,14 @@ fn compare(faces: u64, seed: u64) -> Comparer {
 
 // ---- the speed
 
-#[repr(C)]
-struct Timespec {
-    seconds: i64,
-    nanoseconds: i64,
-}
-
-extern "C" {
-    fn clock_gettime(clock: i32, time: *mut Timespec) -> i32;
-}
-
-// Linux's CLOCK_THREAD_CPUTIME_ID
-const OF_THIS_THREAD: i32 = 3;
-
-// The processor time of this thread in nanoseconds: while another program has the core, it stands still.
-fn processor_time() -> i64 {
-    let mut time = Timespec { seconds: 0, nanoseconds: 0 };
-    assert_eq!(unsafe { clock_gettime(OF_THIS_THREAD, &mut time) }, 0, "no clock of processor time");
-    time.seconds * 1_000_000_000 + time.nanoseconds
-}
-
 // The same in plain Rust; called as the library is.
 #[inline(never)]
-extern "C" fn plain(Cube(corners): Cube, face: i8) -> FaceTrust {
+fn plain(Cube(corners): Cube, face: i8) -> Mc33Trust {
     if !is_face(face) {
-        return FaceTrust { refusal: 4, answer: 0, trust: 0 };
+        return Mc33Trust { refusal: 4, answer: 0, trust: 0 };
     }
     if !corners.iter().all(|corner| corner.is_finite()) {
-        return FaceTrust { refusal: 3, answer: 0, trust: 0 };
+        return Mc33Trust { refusal: 3, answer: 0, trust: 0 };
     }
     let values = FACES[face.unsigned_abs() as usize - 1].map(|corner| corners[corner]);
     let answer = rule(face, values);
@@ -612,24 +574,15 @@ extern "C" fn plain(Cube(corners): Cube, face: i8) -> FaceTrust {
     } else {
         UNKNOWN
     };
-    FaceTrust { refusal: 0, answer: answer as u8, trust }
+    Mc33Trust { refusal: 0, answer: answer as u8, trust }
 }
 
-fn ours(cube: Cube, face: i8) -> FaceTrust {
-    unsafe { mc33_trust_face(cube, face) }
-}
-
-fn nanoseconds(faces: &[(Cube, i8)], told: impl Fn(Cube, i8) -> FaceTrust) -> f64 {
+fn nanoseconds(faces: &[(Cube, i8)], told: impl Fn(Cube, i8) -> Mc33Trust) -> f64 {
     let start = processor_time();
     for &(cube, face) in black_box(faces) {
         black_box(told(cube, face));
     }
     (processor_time() - start) as f64 / faces.len() as f64
-}
-
-fn median(mut times: Vec<f64>) -> f64 {
-    times.sort_by(f64::total_cmp);
-    times[times.len() / 2]
 }
 
 // Corners from -1 to 1, and a face of each; `alternating` has the face's corners of two signs by turns.
@@ -651,8 +604,8 @@ fn speed(name: &str, alternating: bool) {
         .collect();
     let (mut mine, mut theirs) = (Vec::new(), Vec::new());
     for _ in 0..101 {
-        mine.push(nanoseconds(&faces, ours));
-        theirs.push(nanoseconds(&faces, |cube, face| plain(cube, face)));
+        mine.push(nanoseconds(&faces, library::trust_face));
+        theirs.push(nanoseconds(&faces, plain));
     }
     let (mine, theirs) = (median(mine), median(theirs));
     println!("{name:<24}{mine:>9.1}{theirs:>9.1}{:>7.2}", mine / theirs);
