@@ -180,7 +180,7 @@ module _ (k : ℕ) (a b c d : Float) (A B C D : ℤ) {s : Bool} (q : Square s a 
       ∙ sym (exact_sign n t w.1)
 
 -- ---- as they are stated
-pub untied_far : (k : ℕ) (a b c d : Float) (A B C D : ℤ) → T (alternate a b c d) → Over k a b c d A B C D → T (far_from_zero k A B C D) → T (far_for_sum A B C D) → T (untied a b c d)
+untied_far : (k : ℕ) (a b c d : Float) (A B C D : ℤ) → T (alternate a b c d) → Over k a b c d A B C D → T (far_from_zero k A B C D) → T (far_for_sum A B C D) → T (untied a b c d)
 untied_far k a b c d A B C D t o f g = untied_where_far k a b c d A B C D (square a b c d t).1 o f g
 
 pub no_tie_is_true : (n : ℤ) (a b c d : Float) (r : Bool) → r ≡ rule f32 n a b c d → NoTieIsTrue n a b c d r

@@ -26,16 +26,18 @@ e_of A B C D = A *ℤ C -ℤ B *ℤ D
 abbrev pub s_of : ℤ → ℤ → ℤ → ℤ → ℕ
 s_of A B C D = nat_abs (A *ℤ C) + nat_abs (B *ℤ D)
 
--- |E| is to be at least 2 ^ -22, and at least 2 ^ -22 × S: one part in these
+-- Change 6's two limits, 2 ^ -22 and 2 ^ -22 × S: how many parts 1 and S are cut into
 abbrev pub parts_of_one : ℕ
 parts_of_one = 2 ^ 22
 
 abbrev pub parts_of_sum : ℕ
 parts_of_sum = 2 ^ 22
 
+-- |E| is at least 2 ^ -22
 unfoldable pub far_from_zero : ℕ → ℤ → ℤ → ℤ → ℤ → Bool
 far_from_zero k A B C D = leb (2 ^ (k + k)) (nat_abs (e_of A B C D) * parts_of_one)
 
+-- |E| is at least 2 ^ -22 × S
 unfoldable pub far_for_sum : ℤ → ℤ → ℤ → ℤ → Bool
 far_for_sum A B C D = leb (s_of A B C D) (nat_abs (e_of A B C D) * parts_of_sum)
 

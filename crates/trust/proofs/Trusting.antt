@@ -21,9 +21,9 @@ use Rattle.face.specs.Face.{face_of, is_face, is_positive, answer, test_face_of}
 use Rattle.face.specs.Face as Face
 use Rattle.face.specs.Laws.{alternate}
 use Rattle.face.specs.Columns.{square_of}
-use Rattle.face.specs.TrueJoin.{Over, e_of, true_answer, untied, NoTieIsTrue, NoTieIsTrueAt}
+use Rattle.face.specs.TrueJoin.{Over, e_of, true_answer, TrueJoin, TrueJoinAt, NoTieIsTrue, NoTieIsTrueAt}
 use Rattle.face.proofs.Decision.{square}
-use Rattle.face.proofs.TrueJoin.{sizes, untied_far}
+use Rattle.face.proofs.TrueJoin.{sizes}
 use Rattle.trust.specs.declared.Trust.{Trust}
 use Rattle.trust.specs.declared.Trust.TheVariants.{Sure, Turned, Unknown}
 use Rattle.trust.specs.Trust.{otherwise, turned_of, trust_of, told, refused, with_trust, trust_face_of, OverWholes, SureWhere, Means}
@@ -120,12 +120,12 @@ no_sure t e h = cc
 no_turned : (t : Trust) → t ≡ Unknown → t ≡ Turned → ⊥
 no_turned t e h = cc
 
-sure_where : (n : ℤ) (s : Square) (r : Bool) (t : Trust) → t ≡ trust_of n s r → T (is_face n) → (T (alternate s.a s.b s.c s.d) → OverWholes s) → NoTieIsTrue n s.a s.b s.c s.d r → SureWhere s t
+sure_where : (n : ℤ) (s : Square) (r : Bool) (t : Trust) → t ≡ trust_of n s r → T (is_face n) → (T (alternate s.a s.b s.c s.d) → OverWholes s) → TrueJoin n s.a s.b s.c s.d r → NoTieIsTrue n s.a s.b s.c s.d r → SureWhere s t
 unfolding turned_of
-sure_where n s r t e f w h = record { far_enough = λ k A B C D u o x y. sure u (untied_far k s.a s.b s.c s.d A B C D u o x y); no_tie = sure }
-  where
-    sure : T (alternate s.a s.b s.c s.d) → T (untied s.a s.b s.c s.d) → t ≡ Sure
-    sure u v = sure_by n s r t e u (agreeing n (whole_of s.a) (whole_of s.b) (whole_of s.c) (whole_of s.d) r (h.no_tie (low binary32) (whole_of s.a) (whole_of s.b) (whole_of s.c) (whole_of s.d) f u (w u) v))
+sure_where n s r t e f w j h = record {
+  far_enough = λ k A B C D u o x y. sure_by n s r t e u (same_otherwise (low binary32) k s.a s.b s.c s.d (whole_of s.a) (whole_of s.b) (whole_of s.c) (whole_of s.d) A B C D (w u) o n r f u ∙ agreeing n A B C D r (j.far_enough k A B C D f u o x y));
+  no_tie = λ u v. sure_by n s r t e u (agreeing n (whole_of s.a) (whole_of s.b) (whole_of s.c) (whole_of s.d) r (h.no_tie (low binary32) (whole_of s.a) (whole_of s.b) (whole_of s.c) (whole_of s.d) f u (w u) v));
+}
 
 means : (n : ℤ) (s : Square) (r : Bool) (t : Trust) → t ≡ trust_of n s r → T (is_face n) → (T (alternate s.a s.b s.c s.d) → OverWholes s) → Means n s r t
 unfolding turned_of
@@ -154,8 +154,10 @@ module _ (q : Cube) (n : ℤ) (r : Bool) (t : Trust) (s : Square) (same : s ≡ 
   unfolding trust_face_of
   by_answer = ap (told r) (h ∙ ap (λ (x : Square). trust_of n x r) same) ∙ ap (with_trust n (square_of q n)) e
 
-  pub sure_at : (T (alternate s.a s.b s.c s.d) → OverWholes s) → NoTieIsTrueAt q n r → SureWhere (square_of q n) t
-  sure_at w l = subst (λ (x : Square). SureWhere x t) same (sure_where n s r t h (answered_face q n r e) w (subst (λ (x : Square). NoTieIsTrue n x.a x.b x.c x.d r) (sym same) l))
+  pub sure_at : (T (alternate s.a s.b s.c s.d) → OverWholes s) → TrueJoinAt q n r → NoTieIsTrueAt q n r → SureWhere (square_of q n) t
+  sure_at w j l =
+      subst (λ (x : Square). SureWhere x t) same
+      (sure_where n s r t h (answered_face q n r e) w (subst (λ (x : Square). TrueJoin n x.a x.b x.c x.d r) (sym same) j) (subst (λ (x : Square). NoTieIsTrue n x.a x.b x.c x.d r) (sym same) l))
 
   pub means_at : (T (alternate s.a s.b s.c s.d) → OverWholes s) → Means n (square_of q n) r t
   means_at w = subst (λ (x : Square). Means n x r t) same (means n s r t h (answered_face q n r e) w)
