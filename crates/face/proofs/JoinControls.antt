@@ -60,6 +60,10 @@ joins =
     ∷ join 0xbf0aaaaf 0x3f3b1287 0xbeec4ec4 0x3eaf2982 (pos 5) true false true false true false
     -- E is 2, and S a little more than 2 ^ 25: 16777225 and 16777223 both round to 16777224
     ∷ join 0xc5045000 0x42e20000 0xc5f7a800 0x4810fdc0 (pos 5) true true false false true false
+    -- E is (17/16 - 2 ^ -26) × 2 ^ -23
+    ∷ join 0xbe2aaaae 0x3e18e34f 0xbfc00000 0x3fd653af (pos 5) true false true false true false
+    -- E is 2, and S is 2 ^ 24 + 4 times E
+    ∷ join 0xc0400000 0x44c1a000 0xcaaaaaae 0x46293c00 (pos 5) true true false false true false
     -- out of range: (face × a) × val is -0
     ∷ join 0x00000001 0xba800000 0x00000001 0xba000000 (pos 5) false true true true true false
     -- E is 0
