@@ -79,7 +79,7 @@ in_order P Q W p q h =
     (round_mono binary32 P W Q W p.divisor q.divisor (mul-le-mul_right W h)))
     (pow_pos (low binary32))
 
--- ---- the arithmetic: x and y are n and m rounded, with n at least m, and w is 1, all in one unit. Half of |n - m| is left at least
+-- ---- the arithmetic: x and y are n and m rounded, with n at least m, and w is 1, all in one unit. Three quarters of n - m are left at least
 spread : (x y n m w : ℕ) → Within (x * 2 ^ 24) (n * 2 ^ 24) n → Within (y * 2 ^ 24) (m * 2 ^ 24) m → m ≤ n → n + m ≤ (n - m) * parts_of_sum → w ≤ (n - m) * parts_of_one → w ≤ (x - y) * 2 ^ 23
 spread x y n m w a b o s l =
     let u = a.below in
@@ -99,6 +99,12 @@ far N h = subst (λ (x : Float). T (le x (round binary32 false N (2 ^ low binary
 -- |P - Q|
 abbrev pub gap : ℕ → ℕ → ℕ
 gap P Q = cond (ltb P Q) (Q - P) (P - Q)
+
+pub gap_below : (P Q : ℕ) → P < Q → gap P Q ≡ Q - P
+gap_below P Q l = ap (λ (b : Bool). cond b (Q - P) (P - Q)) (lt-ltb P Q l)
+
+pub gap_above : (P Q : ℕ) → Q ≤ P → gap P Q ≡ P - Q
+gap_above P Q l = ap (λ (b : Bool). cond b (Q - P) (P - Q)) (le-ltb P Q l)
 
 -- of two products the rounded ones are 2 ^ -23 apart at least, where the exact ones are far enough; P is the larger one
 apart : (P Q W : ℕ) → Product P W → Product Q W → Q ≤ P → P + Q ≤ (P - Q) * parts_of_sum → W ≤ (P - Q) * parts_of_one → 2 ^ low binary32 ≤ (rounded P W - rounded Q W) * 2 ^ 23
@@ -152,8 +158,8 @@ module _ (P Q W : ℕ) (p : Product P W) (q : Product Q W) where
   -- at 2 ^ -23 and above it has the sign of the exact difference
   pub same_sign : T (le epsilon (magnitude change)) → (sgn change ≡ ltb P Q) × (0 < gap P Q)
   same_sign t = elim (cases_lt P Q) [
-    | inl l ↦ (above_it l, subst (λ (b : Bool). 0 < cond b (Q - P) (P - Q)) (sym (lt-ltb P Q l)) (omega arith))
-    | inr l ↦ (under_it l, subst (λ (b : Bool). 0 < cond b (Q - P) (P - Q)) (sym (le-ltb P Q l)) (left l))
+    | inl l ↦ (above_it l, subst (λ (z : ℕ). 0 < z) (sym (gap_below P Q l)) (omega arith))
+    | inr l ↦ (under_it l, subst (λ (z : ℕ). 0 < z) (sym (gap_above P Q l)) (left l))
   ]
     where
       above_it : P < Q → sgn change ≡ ltb P Q
@@ -175,11 +181,11 @@ module _ (P Q W : ℕ) (p : Product P W) (q : Product Q W) where
   pub no_tie : P + Q ≤ gap P Q * parts_of_sum → W ≤ gap P Q * parts_of_one → T (le epsilon (magnitude change))
   no_tie s l = elim (cases_lt P Q) [
     | inl k ↦
-        let e : gap P Q ≡ Q - P = ap (λ (b : Bool). cond b (Q - P) (P - Q)) (lt-ltb P Q k) in
+        let e = gap_below P Q k in
         let n : L ≤ (h - g) * 2 ^ 23 = apart Q P W q p (omega arith) (subst (λ (z : ℕ). Q + P ≤ z * parts_of_sum) e (omega arith)) (subst (λ (z : ℕ). W ≤ z * parts_of_one) e l) in
         subst (λ (x : Float). T (le epsilon x)) (sym (ap magnitude (below (more g h L (pow_pos (low binary32)) n)) ∙ (round_told binary32 true (h - g) L).0)) (far (h - g) n)
     | inr k ↦
-        let e : gap P Q ≡ P - Q = ap (λ (b : Bool). cond b (Q - P) (P - Q)) (le-ltb P Q k) in
+        let e = gap_above P Q k in
         let n : L ≤ (g - h) * 2 ^ 23 = apart P Q W p q k (subst (λ (z : ℕ). P + Q ≤ z * parts_of_sum) e s) (subst (λ (z : ℕ). W ≤ z * parts_of_one) e l) in
         subst (λ (x : Float). T (le epsilon x)) (sym (ap magnitude (not_below (in_order Q P W q p k)) ∙ (round_told binary32 false (g - h) L).0)) (far (g - h) n)
   ]

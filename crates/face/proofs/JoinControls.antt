@@ -54,6 +54,14 @@ joins =
     -- one step below the range, and its ends, where the answer is no tie though |E| is below 2 ^ -22 × S
     ∷ join 0x358637bd 0xdf000000 0x5f000000 0xb5000000 (pos 2) false true true true true true
     ∷ join 0x358637bd 0xdf000000 0x5f000000 0xb58637be (pos 2) true true false true false false
+    -- |E| is 2 ^ -22, and a step less; it is 2 ^ -22 × S, and a step less; val is -2 ^ -23
+    ∷ join 0xba800000 0x3a800000 0xba000000 0x39800000 (pos 5) true true true true false false
+    ∷ join 0xba800000 0x3a800000 0xb9ffffff 0x39800000 (pos 5) true false true true false false
+    ∷ join 0xca800002 0x4a7ffffc 0xbf800000 0x3f800000 (pos 5) true true true true false false
+    ∷ join 0xca800004 0x4a800000 0xbf800000 0x3f800000 (pos 5) true true false true false false
+    ∷ join 0x3f800000 0xbf800001 0x3f800000 0xbf800000 (pos 5) true false false true false false
+    -- |E| is between 2 ^ -22 of either product and 2 ^ -22 × S
+    ∷ join 0x3f800000 0xbf800000 0x3f800003 0xbf800000 (pos 5) true true false true true true
     -- E is 2 ^ -24
     ∷ join 0xba000000 0x39800000 0xb9800000 0x39800000 (pos 5) true false true false true false
     -- E is 1.0624 × 2 ^ -23

@@ -22,7 +22,6 @@ use Rattle.binary32.proofs.Magnitudes.{sgn, positive_above, magnitude_mul}
 use Rattle.binary32.proofs.Wholes.{size_exactly, sign_exactly}
 use Rattle.cube.specs.declared.Cube.{Cube}
 use Rattle.face.specs.Face.{rule, face_by, face_of, is_face, is_positive}
-use Rattle.face.specs.Laws.{alternate}
 use Rattle.face.specs.TrueJoin.{Over, e_of, s_of, parts_of_one, parts_of_sum, far_from_zero, far_for_sum, true_answer, untied, TrueJoin, NoTieIsTrue, TrueJoinAt, NoTieIsTrueAt}
 use Rattle.face.proofs.Decision.{Ranged, Square, square, has_size, product, low_end, least_positive, in_range_positive, val, kept_untied, decided}
 use Rattle.face.proofs.Differences.{Product, change, gap, same_sign, no_tie}
@@ -146,7 +145,7 @@ module _ (k : ℕ) (a b c d : Float) (A B C D : ℤ) {s : Bool} (q : Square s a 
   pub e_size : nat_abs (e_of A B C D) ≡ gap P Q
   e_size = (λ i. nat_abs (ac i -ℤ bd i)) ∙ (taken P Q).0
 
-  pub e_sign : non_neg (e_of A B C D) ≡ not (ltb P Q)
+  e_sign : non_neg (e_of A B C D) ≡ not (ltb P Q)
   e_sign = (λ i. non_neg (ac i -ℤ bd i)) ∙ (taken P Q).1
 
   s_is : s_of A B C D ≡ P + Q
@@ -180,15 +179,12 @@ module _ (k : ℕ) (a b c d : Float) (A B C D : ℤ) {s : Bool} (q : Square s a 
       ∙ sym (exact_sign n t w.1)
 
 -- ---- as they are stated
-untied_far : (k : ℕ) (a b c d : Float) (A B C D : ℤ) → T (alternate a b c d) → Over k a b c d A B C D → T (far_from_zero k A B C D) → T (far_for_sum A B C D) → T (untied a b c d)
-untied_far k a b c d A B C D t o f g = untied_where_far k a b c d A B C D (square a b c d t).1 o f g
-
 pub no_tie_is_true : (n : ℤ) (a b c d : Float) (r : Bool) → r ≡ rule f32 n a b c d → NoTieIsTrue n a b c d r
 no_tie_is_true n a b c d r e = record { no_tie = λ k A B C D t u o h. e ∙ true_where_untied k a b c d A B C D (square a b c d u).1 o n t h }
 
 pub true_join : (n : ℤ) (a b c d : Float) (r : Bool) → r ≡ rule f32 n a b c d → TrueJoin n a b c d r
 true_join n a b c d r e = record {
-  far_enough = λ k A B C D t u o f g. (no_tie_is_true n a b c d r e).no_tie k A B C D t u o (untied_far k a b c d A B C D u o f g);
+  far_enough = λ k A B C D t u o f g. (no_tie_is_true n a b c d r e).no_tie k A B C D t u o (untied_where_far k a b c d A B C D (square a b c d u).1 o f g);
 }
 
 pub no_tie_at : (q : Cube) (n : ℤ) (r : Bool) → r ≡ face_of q n → NoTieIsTrueAt q n r

@@ -5,8 +5,8 @@ use Rattle.std.specs.Float.Ieee.{neg, sub, mul, lt}
 use Rattle.binary32.specs.Numbers.{f32, magnitude, epsilon}
 use Rattle.binary32.specs.Range.{in_range}
 use Rattle.cube.specs.declared.Cube.{Cube}
-use Rattle.cube.specs.Corners.{corner_of}
-use Rattle.face.specs.Face.{face_corner, is_positive, is_face, rule, Said, answer, refused}
+use Rattle.face.specs.Face.{is_positive, is_face, rule, Said, answer, refused}
+use Rattle.face.specs.Columns.{square_of}
 
 -- a and c are above zero and b and d below, each magnitude in the range
 unfoldable pub up_and_down : Float → Float → Float → Float → Bool
@@ -28,10 +28,10 @@ pub record FaceLaws (n : ℤ) (a b c d : Float) (r : Bool) : Type 0 where
   -- and the number with the other sign has the other answer
   pub against : T (is_face n) → T (alternate a b c d) → r ≡ not (rule f32 (neg_ℤ n) a b c d)
 
+-- of a cube's face, and of what the public routine says, where it is an answer
 abbrev pub FaceLawsAt : Cube → ℤ → Bool → Type 0
-FaceLawsAt q n r = FaceLaws n (corner_of q (face_corner n 0)) (corner_of q (face_corner n 1)) (corner_of q (face_corner n 2)) (corner_of q (face_corner n 3)) r
+FaceLawsAt q n r = let s = square_of q n in FaceLaws n s.a s.b s.c s.d r
 
--- of what the public routine says, where it is an answer
-abbrev pub FaceLawsOf : Cube → ℤ → Said → Type 0
-FaceLawsOf q n (answer r) = FaceLawsAt q n r
-FaceLawsOf q n (refused why) = Unit {0}
+abbrev pub OfAnswer : (Bool → Type 0) → Said → Type 0
+OfAnswer P (answer r) = P r
+OfAnswer P (refused why) = Unit {0}

@@ -7,7 +7,7 @@ use Rattle.std.specs.Float.Ieee.{sub, mul, le}
 use Rattle.binary32.specs.Numbers.{magnitude, epsilon}
 use Rattle.binary32.specs.Wholes.{Exactly}
 use Rattle.cube.specs.declared.Cube.{Cube}
-use Rattle.face.specs.Face.{is_face, Said, answer, refused}
+use Rattle.face.specs.Face.{is_face}
 use Rattle.face.specs.Laws.{alternate}
 use Rattle.face.specs.Columns.{square_of}
 
@@ -58,13 +58,9 @@ pub record TrueJoin (n : ℤ) (a b c d : Float) (r : Bool) : Type 0 where
 pub record NoTieIsTrue (n : ℤ) (a b c d : Float) (r : Bool) : Type 0 where
   pub no_tie : (k : ℕ) (A B C D : ℤ) → T (is_face n) → T (alternate a b c d) → Over k a b c d A B C D → T (untied a b c d) → r ≡ true_answer n A B C D
 
--- of a cube's face, and of what the public routine says, where it is an answer
+-- of a cube's face
 abbrev pub TrueJoinAt : Cube → ℤ → Bool → Type 0
 TrueJoinAt q n r = let s = square_of q n in TrueJoin n s.a s.b s.c s.d r
 
 abbrev pub NoTieIsTrueAt : Cube → ℤ → Bool → Type 0
 NoTieIsTrueAt q n r = let s = square_of q n in NoTieIsTrue n s.a s.b s.c s.d r
-
-abbrev pub OfAnswer : (Bool → Type 0) → Said → Type 0
-OfAnswer P (answer r) = P r
-OfAnswer P (refused why) = Unit {0}

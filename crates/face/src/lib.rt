@@ -9,8 +9,8 @@ ghost use Rattle.binary32.specs.Numbers.{f32};
 ghost use Rattle.binary32.specs.Wholes.{EachIsWhole};
 ghost use Rattle.face.specs.Face.{rule, face_of, said, test_face_of};
 ghost use Rattle.face.specs.Columns.{place_of, row_of, square_of};
-ghost use Rattle.face.specs.Laws.{up_and_down, alternate, FaceLawsAt, FaceLawsOf};
-ghost use Rattle.face.specs.TrueJoin.{TrueJoinAt, NoTieIsTrueAt, OfAnswer};
+ghost use Rattle.face.specs.Laws.{up_and_down, alternate, FaceLawsAt, OfAnswer};
+ghost use Rattle.face.specs.TrueJoin.{TrueJoinAt, NoTieIsTrueAt};
 
 use binary32::in_range;
 use cube::{Cube, Face, Refusal};
@@ -119,7 +119,7 @@ pub fn face_answer(q: Cube, face: Face) -> bool
 #[tactic(auto, using(crate::proofs::Places::by_no_face, crate::proofs::Places::by_not_finite, crate::proofs::Places::by_answer, binary32::proofs::Wholes::each_is_whole))]
 pub fn test_face(q: Cube, face: Face) -> Result<bool, Refusal>
     ensures answer { said result ≡ test_face_of q face.0 }
-    ensures laws { FaceLawsOf q face.0 (said result) }
+    ensures laws { OfAnswer (FaceLawsAt q face.0) (said result) }
     ensures true_join { OfAnswer (TrueJoinAt q face.0) (said result) }
     ensures no_tie { OfAnswer (NoTieIsTrueAt q face.0) (said result) }
     ensures wholes { EachIsWhole }

@@ -7,10 +7,9 @@ use native.Mathlib.Nat.{mul_comm}
 use lib.Dec.{T, ltb}
 use lib.IntN.{ℤ, neg_ℤ, nat_abs}
 use lib.Ieee.{Float, binary32, low, neg}
-use lib.Ieee.Fits.{and_i}
 use Rattle.binary32.specs.Range.{in_range}
 use Rattle.binary32.specs.Wholes.{whole_of}
-use Rattle.binary32.proofs.Bools.{either, four}
+use Rattle.binary32.proofs.Bools.{either, four, or_left, or_right, of_four}
 use Rattle.cube.specs.declared.Cube.{Cube}
 use Rattle.face.specs.declared.Square.{Square}
 use Rattle.face.specs.Face.{is_face, is_positive, answer, test_face_of}
@@ -30,22 +29,11 @@ turn_round : (a b c d : Float) → T (alternate a b c d) → T (alternate d c b 
 unfolding alternate up_and_down
 turn_round a b c d t =
     elim (either (up_and_down a b c d) (up_and_down b a d c) t) [
-      | inl u ↦ let h = four (in_range a) (in_range (neg b)) (in_range c) (in_range (neg d)) u in or_right (up_and_down d c b a) (up_and_down c d a b) (all (in_range c) (in_range (neg d)) (in_range a) (in_range (neg b)) h.2 h.3 h.0 h.1)
-      | inr u ↦ let h = four (in_range b) (in_range (neg a)) (in_range d) (in_range (neg c)) u in or_left (up_and_down d c b a) (up_and_down c d a b) (all (in_range d) (in_range (neg c)) (in_range b) (in_range (neg a)) h.2 h.3 h.0 h.1)
+      | inl u ↦ let h = four (in_range a) (in_range (neg b)) (in_range c) (in_range (neg d)) u in or_right (up_and_down d c b a) (up_and_down c d a b) (of_four (in_range c) (in_range (neg d)) (in_range a) (in_range (neg b)) h.2 h.3 h.0 h.1)
+      | inr u ↦ let h = four (in_range b) (in_range (neg a)) (in_range d) (in_range (neg c)) u in or_left (up_and_down d c b a) (up_and_down c d a b) (of_four (in_range d) (in_range (neg c)) (in_range b) (in_range (neg a)) h.2 h.3 h.0 h.1)
     ]
-  where
-    all : (p q r s : Bool) → T p → T q → T r → T s → T (p && q && r && s)
-    all p q r s tp tq tr ts = and_i (p && q && r) s (and_i (p && q) r (and_i p q tp tq) tr) ts
 
-    or_left : (p q : Bool) → T p → T (p || q)
-    or_left true q t = tt
-    or_left false q t = absurd t
-
-    or_right : (p q : Bool) → T q → T (p || q)
-    or_right true q t = tt
-    or_right false q t = t
-
--- the sign of a turned round is d's
+-- the sign of a is the other one where the values are turned round
 other_along : (p s r : Bool) → beq r (beq p (not (not s))) ≡ not (beq r (beq p (not s)))
 other_along true true true = refl
 other_along true true false = refl

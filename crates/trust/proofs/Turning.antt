@@ -1,8 +1,8 @@
 -- What the code compares, against the exact sign: of four values that alternate in range the two products, each exact, tell the sign of E. Assumes nothing.
 use mathlib.Core.Path.{◌≡◌, refl, sym, ap, ◌∙◌, subst}
 use mathlib.Core.Logic.{inl, inr}
-use mathlib.Core.Bool.{Bool, true, false, not, ◌&&◌, ◌||◌, beq, cond}
-use Prim.Native.Nat.{ℕ, ◌-◌, ◌<◌, ◌≤◌}
+use mathlib.Core.Bool.{Bool, true, false, not, ◌&&◌, ◌||◌, beq}
+use Prim.Native.Nat.{ℕ, ◌<◌, ◌≤◌}
 use native.Mathlib.Omega.{arith}
 use borrow.Author.Tests.{lt-ltb, le-ltb, ne_eqb}
 use lib.Dec.{T, ltb, eqb}
@@ -24,7 +24,7 @@ use Rattle.face.specs.Face.{is_face, is_positive}
 use Rattle.face.specs.Laws.{alternate}
 use Rattle.face.specs.TrueJoin.{Over, true_answer}
 use Rattle.face.proofs.Decision.{Ranged, square, has_size}
-use Rattle.face.proofs.Differences.{gap}
+use Rattle.face.proofs.Differences.{gap, gap_below, gap_above}
 use Rattle.face.proofs.TrueJoin.{sizes, ac, bd, e_size, exact_sign}
 use Rattle.trust.specs.Trust.{otherwise, turned_of, OverWholes}
 use Rattle.trust.proofs.Products.{both}
@@ -86,7 +86,7 @@ module _ (k : ℕ) (a b c d : Float) (A B C D : ℤ) (t : T (alternate a b c d))
         let p = lt-ltb P Q l in
         let q = le-ltb Q P (omega arith) in
         (λ i. (q i && not (beq r along)) || (p i && beq r along)) ∙ below_zero r along ∙ ap (λ (x : Bool). true && not (beq r (beq along (not x)))) (sym p)
-        ∙ sym (told (subst (λ (x : Bool). 0 < cond x (Q - P) (P - Q)) (sym p) (omega arith)))
+        ∙ sym (told (subst (λ (z : ℕ). 0 < z) (sym (gap_below P Q l)) (omega arith)))
     | inr l ↦ not_less l
   ]
     where
@@ -96,11 +96,11 @@ module _ (k : ℕ) (a b c d : Float) (A B C D : ℤ) (t : T (alternate a b c d))
             let p = le-ltb P Q l in
             let q = lt-ltb Q P m in
             (λ i. (q i && not (beq r along)) || (p i && beq r along)) ∙ above_zero r along ∙ ap (λ (x : Bool). true && not (beq r (beq along (not x)))) (sym p)
-            ∙ sym (told (subst (λ (x : Bool). 0 < cond x (Q - P) (P - Q)) (sym p) (omega arith)))
+            ∙ sym (told (subst (λ (z : ℕ). 0 < z) (sym (gap_above P Q l)) (omega arith)))
         | inr m ↦
             let p = le-ltb P Q l in
             let q = le-ltb Q P m in
-            let z : gap P Q ≡ 0 = ap (λ (x : Bool). cond x (Q - P) (P - Q)) p ∙ omega arith in
+            let z : gap P Q ≡ 0 = gap_above P Q l ∙ omega arith in
             (λ i. (q i && not (beq r along)) || (p i && beq r along))
             ∙ sym (ap (λ (x : ℕ). not (eqb x 0) && not (beq r (true_answer n A B C D))) (e_size k a b c d A B C D (square a b c d t).1 o ∙ z))
       ]
