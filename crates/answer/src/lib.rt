@@ -3,7 +3,7 @@
 // appends its text to a vector. Inner routines of the text program, which lends them room.
 #![tactic(auto)]
 
-ghost use Rattle.std.specs.Prelude.{◌≡◌, false, true, [], ◌∷◌, ◌++◌, ◌+◌, ◌*◌, ◌≤◌, ◌<◌, length};
+ghost use Rattle.std.specs.Prelude.{◌≡◌, false, true, [], ◌∷◌, ◌++◌, ◌+◌, ◌*◌, ◌≤◌, ◌<◌, length, MatchOption, IfSome};
 ghost use Rattle.arrayvec.specs.ArrayVec.{array_vec_len};
 ghost use Rattle.cube.specs.Refusals.{refusal_number};
 ghost use Rattle.notes.specs.declared.Notes.{Notes as Counts};
@@ -13,7 +13,7 @@ ghost use Rattle.choice.specs.Choice.{readings_in, said};
 ghost use Rattle.put.specs.Decimal.{decimal};
 ghost use Rattle.line.specs.Line.{parse_line};
 ghost use Rattle.answer.specs.Answer.{same, input_names, fields, numbers, choice_line, BareLines};
-ghost use Rattle.answer.specs.Answer.{refused_line, choice_reply, cube_reply, reply_to, printed, ends, flow};
+ghost use Rattle.answer.specs.Answer.{refusal, refused_line, choice_reply, cube_reply, reply_to, printed, ends, flow};
 ghost use Rattle.answer.specs.Room.{line_room, choice_room, names_more};
 
 use arrayvec::ArrayVec;
@@ -126,16 +126,29 @@ fn is_names(line: &[u8]) -> bool
     line == names
 }
 
-// The answer for the cube of a line. Only a long line has one.
-fn cube_answer(line: &[u8]) -> Result<Counted, Refusal>
-    ensures reply { choice_reply (said result) ≡ cube_reply (parse_line line.now) }
-    ensures readings { readings_in (said result) ≤ 255 }
-    ensures long { ends (choice_reply (said result)) ≡ false → 74 < length line.now }
+// A malformed line is the end.
+fn refuse_malformed<const CAP: usize>(number: u64, out: &mut ArrayVec<u8, CAP>) -> ControlFlow<u64>
+    requires { array_vec_len out.old + line_room ≤ CAP }
+    ensures text { out.new.items ≡ out.old.items ++ printed number (refusal 8) }
+    ensures end { result ≡ flow number (refusal 8) }
+    ensures room { array_vec_len out.new ≤ array_vec_len out.old + line_room }
+{
+    put_malformed(number, out);
+    ControlFlow::Break(number)
+}
+
+// The answer for the cube of a line, none of a malformed one. Only a long line has one.
+fn cube_answer(line: &[u8]) -> Option<Result<Counted, Refusal>>
+    ensures reply { MatchOption result
+        (refusal 8 ≡ cube_reply (parse_line line.now))
+        (λ a. choice_reply (said a) ≡ cube_reply (parse_line line.now)) }
+    ensures readings { IfSome result (λ a. readings_in (said a) ≤ 255) }
+    ensures long { IfSome result (λ a. 74 < length line.now) }
 {
     let Some(parsed) = line::parse_line(line) else {
-        return Err(Refusal::Malformed);
+        return None;
     };
-    choice::handle_cube(parsed.case, parsed.configuration, parsed.cube)
+    Some(choice::handle_cube(parsed.case, parsed.configuration, parsed.cube))
 }
 
 // Line 1 names the fields.
@@ -151,7 +164,7 @@ fn answer_names<const CAP: usize>(
         × (ends (reply_to number line.now) ≡ false → array_vec_len out.new ≤ array_vec_len out.old + length line.now + names_more) }
 {
     if !is_names(line) {
-        return print_choice(Err(Refusal::Malformed), number, out);
+        return refuse_malformed(number, out);
     }
     put::bytes(
         b"code row column centre unsettled unmatched readings\n",
@@ -178,5 +191,8 @@ pub fn answer_line<const CAP: usize>(
     if number <= 1 {
         return answer_names(line, number, out);
     }
-    print_choice(cube_answer(line), number, out)
+    match cube_answer(line) {
+        Some(answer) => print_choice(answer, number, out),
+        None => refuse_malformed(number, out),
+    }
 }

@@ -3,7 +3,9 @@
 #![tactic(auto)]
 
 use cube::{Cube, Face, Refusal};
-use std::{fmt, io};
+use output::Output;
+use std::fmt;
+use std::fmt::Write;
 
 // What a line says: an answer, that two faces do not meet, or a refusal.
 #[derive(Clone, Copy)]
@@ -46,8 +48,8 @@ fn below(values: [f32; 4]) -> Cube {
 
 // Document 01's cubes of case 3, configuration 0, whose face number is 5, and of configuration 12,
 // whose face number is -6; then the refusals.
-fn tests(rt: &impl Print) -> io::Result<()> {
-    println!(rt; "face answers")?;
+fn tests() -> fmt::Result {
+    writeln!(Output, "face answers")?;
     for (q, n) in [
         (low([2.0, -1.0, 2.0, -1.0]), 5),
         (low([1.0, -2.0, 1.0, -2.0]), 5),
@@ -59,15 +61,15 @@ fn tests(rt: &impl Print) -> io::Result<()> {
         (low([1.0, -1.0, 1.0, -1.0]), -7),
         (low([1.0, f32::INFINITY, 1.0, -1.0]), 6),
     ] {
-        println!(rt; "{}", Said(face::test_face(q, Face(n)).map(Some)))?;
+        writeln!(Output, "{}", Said(face::test_face(q, Face(n)).map(Some)))?;
     }
     Ok(())
 }
 
 // Whether two cubes, one below the other, answer alike: with the same sign, with other signs, at a tie, out of
 // range, and at faces that do not meet.
-fn comparisons(rt: &impl Print) -> io::Result<()> {
-    println!(rt; "equal answers")?;
+fn comparisons() -> fmt::Result {
+    writeln!(Output, "equal answers")?;
     for (values, n, p) in [
         ([2.0, -1.0, 2.0, -1.0], 5, 6),
         ([2.0, -1.0, 2.0, -1.0], 5, -6),
@@ -77,12 +79,16 @@ fn comparisons(rt: &impl Print) -> io::Result<()> {
         ([2.0, -1.0, 2.0, -1.0], 5, 7),
     ] {
         let said = meeting::compare_faces(low(values), Face(n), below(values), Face(p));
-        println!(rt; "{}", Said(said))?;
+        writeln!(Output, "{}", Said(said))?;
     }
     Ok(())
 }
 
-fn main(rt: HostRuntime) -> io::Result<()> {
-    tests(&rt)?;
-    comparisons(&rt)
+fn all() -> fmt::Result {
+    tests()?;
+    comparisons()
+}
+
+fn main() {
+    let _ = all();
 }

@@ -16,7 +16,7 @@ use Rattle.tilings.specs.Answers.{answers_of}
 use Rattle.families.specs.Plans.{asking, plans, plan_of}
 
 module _ {case c : ℕ} where
-  of_a_case : c < get_or configurations case 0 → case < 15
+  pub of_a_case : c < get_or configurations case 0 → case < 15
   unfolding configurations
   of_a_case h = lt_of_not-le (λ (l : 15 ≤ case). not-suc-le-zero (subst (λ (n : ℕ). c < n) (get_or-eq_default configurations 0 l) h))
 

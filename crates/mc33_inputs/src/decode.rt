@@ -1,6 +1,12 @@
 // The escapes of a test: `\n`, `\r`, `\t`, `\0`, `\\`, `\xHH` with two lower-case hex digits, `\N` and `\A`
 // for the names line of the input and of the output, `\C` for eight corners, `\L` for 100,000 bytes '1'.
-use std::alloc::{AllocError, Global};
+ghost use Rattle.std.specs.Prelude.{◌≤◌};
+ghost use Rattle.arrayvec.specs.ArrayVec.{array_vec_len};
+
+use arrayvec::ArrayVec;
+
+// Room for a test: its input and its output have up to so many bytes together.
+pub(crate) const ROOM: usize = 131072;
 
 // Where an escape has come to: behind its backslash, behind its `x`, and behind its first digit.
 #[derive(Clone, Copy)]
@@ -26,43 +32,39 @@ fn meaning(letter: u8) -> Option<&'static [u8]> {
     }
 }
 
-// The bytes that a text stands for; none where it has another escape, or one that does not end.
-pub(crate) fn decode(alloc: Global, text: &str) -> Result<Option<Vec<u8>>, AllocError> {
-    let mut bytes = Vec::new(alloc);
+// Appends the bytes that a text stands for; none where it has another escape, or one that does not end, or they are more than
+// there is room for.
+pub(crate) fn decode(text: &[u8], room: &mut ArrayVec<u8, ROOM>) -> Option<()>
+    ensures { array_vec_len room.old ≤ array_vec_len room.new }
+{
     let mut escape = Escape::Outside;
-    for &byte in text.as_bytes() {
+    for &byte in text {
         escape = match (escape, byte) {
             (Escape::Outside, b'\\') => Escape::Begun,
             (Escape::Begun, b'x') => Escape::Hex,
             (Escape::Hex, _) => Escape::Digit(byte),
             (Escape::Outside, _) => {
-                bytes.push(byte)?;
+                room.try_push(byte).ok()?;
                 Escape::Outside
             }
             (Escape::Begun, b'L') => {
-                for _ in 0..100_000 {
-                    bytes.push(b'1')?;
+                for _ in 0..100 {
+                    room.try_extend_from_slice(&[b'1'; 1000]).ok()?;
                 }
                 Escape::Outside
             }
             (Escape::Begun, _) => {
-                let Some(known) = meaning(byte) else {
-                    return Ok(None);
-                };
-                bytes.extend_from_slice(known)?;
+                room.try_extend_from_slice(meaning(byte)?).ok()?;
                 Escape::Outside
             }
             (Escape::Digit(first), _) => {
-                let Some(value) = hex_digits::pair(&[first, byte], 0) else {
-                    return Ok(None);
-                };
-                bytes.push(value)?;
+                room.try_push(hex_digits::pair(&[first, byte], 0)?).ok()?;
                 Escape::Outside
             }
         };
     }
     match escape {
-        Escape::Outside => Ok(Some(bytes)),
-        _ => Ok(None),
+        Escape::Outside => Some(()),
+        _ => None,
     }
 }

@@ -11,9 +11,14 @@ mod run;
 ghost use Rattle.std.specs.Prelude.{◌≤◌, length};
 
 use arrayvec::ArrayVec;
+use decode::ROOM;
+use output::Output;
 use run::{INPUT, OUT};
-use std::alloc::{AllocError, Global};
-use std::io;
+use std::fmt;
+use std::fmt::Write;
+
+// Room for the tests, and one byte more. Fixed memory, and no heap.
+const FILE: usize = 65537;
 
 // What a line came to: nothing, or a test, in so many runs. A line of another form differs in none, so no flag beside a
 // number would do.
@@ -56,23 +61,26 @@ fn test(input: &[u8], output: &[u8], out: &mut ArrayVec<u8, OUT>) -> Tried
     Tried::Differs(runs)
 }
 
-fn try_line(alloc: Global, line: &str, out: &mut ArrayVec<u8, OUT>) -> Result<Tried, AllocError> {
-    if line.is_empty() || line.starts_with('#') {
-        return Ok(Tried::Nothing);
+fn try_line(line: &[u8], room: &mut ArrayVec<u8, ROOM>, out: &mut ArrayVec<u8, OUT>) -> Tried {
+    if line.is_empty() || line.starts_with(b"#") {
+        return Tried::Nothing;
     }
-    let Some((input, output)) = line.split_once(" => ") else {
-        return Ok(Tried::Differs(0));
-    };
-    let Some(input) = decode::decode(alloc, input)? else {
-        return Ok(Tried::Differs(0));
-    };
-    let Some(output) = decode::decode(alloc, output)? else {
-        return Ok(Tried::Differs(0));
-    };
-    if INPUT < input.len() {
-        return Ok(Tried::Differs(0));
-    }
-    Ok(test(&input, &output, out))
+    decoded(line, room, out).unwrap_or(Tried::Differs(0))
+}
+
+// The test of a line; none where it has another form.
+fn decoded(
+    line: &[u8],
+    room: &mut ArrayVec<u8, ROOM>,
+    out: &mut ArrayVec<u8, OUT>,
+) -> Option<Tried> {
+    let arrow = line.array_windows::<4>().position(|four| four == b" => ")?;
+    room.clear();
+    decode::decode(&line[..arrow], room)?;
+    let n = room.len();
+    decode::decode(&line[arrow + 4..], room)?;
+    let (input, output) = room.as_slice().split_at(n);
+    Some(test(input, output, out))
 }
 
 impl Tally {
@@ -83,27 +91,43 @@ impl Tally {
     }
 }
 
-fn main(rt: HostRuntime) -> io::Result<()> {
-    let file = io::read_to_string(rt.alloc(), rt.stdin())?;
+fn all(file: &[u8]) -> fmt::Result {
+    let mut room = ArrayVec::new();
     let mut out = ArrayVec::new();
     let mut tally = Tally {
         inputs: 0,
         runs: 0,
         differ: 0,
     };
-    for (k, line) in file.split('\n').enumerate() {
-        let number = k + 1;
-        match try_line(rt.alloc(), line, &mut out)? {
+    for (k, line) in file.split(|b| *b == b'\n').enumerate() {
+        match try_line(line, &mut room, &mut out) {
             Tried::Nothing => {}
             Tried::Agrees(runs) => tally.count(runs, false),
             Tried::Differs(runs) => {
-                println!(rt; "line {number} differs")?;
+                writeln!(Output, "line {} differs", k + 1)?;
                 tally.count(runs, true);
             }
         }
     }
-    println!(rt;
+    writeln!(
+        Output,
         "{} inputs, {} runs, {} differ",
         tally.inputs, tally.runs, tally.differ
     )
+}
+
+fn read(file: &mut [u8; FILE]) -> usize
+    ensures { result ≤ 65537 }
+{
+    io::read_full(0, file)
+}
+
+fn main() {
+    let mut file = [0u8; FILE];
+    let n = read(&mut file);
+    if n == FILE {
+        let _ = writeln!(Output, "more than 65,536 bytes of tests");
+        return;
+    }
+    let _ = all(&file[..n]);
 }

@@ -1,12 +1,13 @@
 -- A number's decimal digits: the last and those before it, and how many there are. Assumes nothing.
-use mathlib.Core.Path.{◌≡◌, refl, ap, ◌∙◌}
+use mathlib.Core.Path.{◌≡◌, refl, ap, ◌∙◌, subst}
 use mathlib.Core.Bool.{Bool, true, false, cond}
 use mathlib.Core.List.{List, [], ◌∷◌, ◌++◌}
 use Prim.Native.Nat.{ℕ, zero, suc, ◌+◌, ◌/◌, ◌%◌, ◌^◌, ◌≤◌, ◌<◌}
-use native.Mathlib.Nat.{not-suc-le-zero, lt-suc_self, lt_of_lt_of_le, le_of_suc-le-suc, div-lt_self}
+use native.Mathlib.Nat.{not-suc-le-zero, lt-suc_self, lt_of_lt_of_le, le_of_suc-le-suc, div-lt_self, div-lt_iff_lt-mul, pow-suc}
+use native.Mathlib.Decide.{dec_lt}
 use native.Mathlib.Omega.{arith}
 use lib.Dec.{ltb, lit≤, lit<}
-use lib.ListN.{length}
+use lib.ListN.{length, length-append}
 use borrow.Author.Tests.{ltb-false, lt-ltb, le-ltb}
 use Rattle.std.specs.Fmt as Fmt
 use Rattle.std.proofs.lemmas.Fmt as Steps
@@ -51,13 +52,28 @@ decimal_is =
     Steps.decimal_by_steps (λ n ds. decimal n ≡ ds) decimal_one
     (λ n ds h e. decimal_more n h ∙ ap (λ (l : List ℕ). l ++ ((48 + n % 10) ∷ [])) e)
 
-decimal_length : (k n : ℕ) → 0 < k → n < 10 ^ k → n < 2 ^ 64 → length (decimal n) ≤ k
-decimal_length k n p h l = let long = Steps.length-decimal-le k n p h l in omega (arith, ap length (decimal_is n l))
+pub length_one : (n : ℕ) → n < 10 → length (decimal n) ≡ 1
+length_one n h = ap length (decimal_one n h)
+
+pub length_more : (n : ℕ) → 10 ≤ n → length (decimal n) ≡ length (decimal (n / 10)) + 1
+length_more n h = ap length (decimal_more n h) ∙ length-append (decimal (n / 10)) ((48 + n % 10) ∷ [])
+
+pub decimal_length : (k n : ℕ) → 0 < k → n < 10 ^ k → length (decimal n) ≤ k
+decimal_length zero n p h = absurd (not-suc-le-zero p)
+decimal_length (suc zero) n p h = let l = length_one n h in omega arith
+decimal_length (suc (suc k)) n p h =
+    elim (dec_lt n 10) [
+      | yes l ↦ let one = length_one n l in omega arith
+      | no l ↦
+          let more = length_more n (omega arith) in
+          let high = decimal_length (suc k) (n / 10) (omega arith) ((div-lt_iff_lt-mul (lit< tt)).1 (subst (λ (m : ℕ). n < m) (pow-suc 10 (suc k)) h)) in
+          omega arith
+    ]
 
 -- a byte's digits
 pub decimal_small : (n : ℕ) → n < 256 → length (decimal n) ≤ 3
-decimal_small n h = decimal_length 3 n (lit< tt) (lt_of_lt_of_le h (lit≤ tt)) (lt_of_lt_of_le h (lit≤ tt))
+decimal_small n h = decimal_length 3 n (lit< tt) (lt_of_lt_of_le h (lit≤ tt))
 
 -- a u64's digits
 pub decimal_long : (n : ℕ) → n < 2 ^ 64 → length (decimal n) ≤ 20
-decimal_long n h = decimal_length 20 n (lit< tt) (lt_of_lt_of_le h (lit≤ tt)) h
+decimal_long n h = decimal_length 20 n (lit< tt) (lt_of_lt_of_le h (lit≤ tt))

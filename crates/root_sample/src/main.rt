@@ -3,6 +3,9 @@
 // there were and how many differ; a line of any other form counts as one that differs.
 #![tactic(auto)]
 
+use output::Output;
+use std::fmt::Write;
+
 // Whether the line has a pattern and its root.
 fn agrees(line: &[u8; 18]) -> bool {
     let (Some(bits), Some(root)) = (hex_digits::word(line, 0), hex_digits::word(line, 9)) else {
@@ -33,7 +36,7 @@ fn count() -> (u64, u64) {
     (u64::MAX, differ)
 }
 
-fn main(rt: HostRuntime) -> std::io::Result<()> {
+fn main() {
     let (lines, differ) = count();
-    println!(rt; "{lines} roots, {differ} differ")
+    let _ = writeln!(Output, "{lines} roots, {differ} differ");
 }

@@ -9,7 +9,7 @@ use Rattle.cube.proofs.Table.{agree}
 use Rattle.tilings.specs.Tilings.{has_centre}
 
 -- past the bits
-far : (m : ℕ) {n : ℕ} → m ≤ n → (k : ℕ) → k < m → eqb n k ≡ false
+pub far : (m : ℕ) {n : ℕ} → m ≤ n → (k : ℕ) → k < m → eqb n k ≡ false
 far m l k h = ne_eqb _ k (λ e. omega (arith, e, h, l))
 
 pub below_64 : (code : ℕ) → code < 64 → eqb (0xe18602000 / 2 ^ code % 2) 1 ≡ has_centre code

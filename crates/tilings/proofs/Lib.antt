@@ -1,4 +1,4 @@
-mod Bits
+pub mod Bits
 pub mod Columns
 mod Controls
 pub mod Settling

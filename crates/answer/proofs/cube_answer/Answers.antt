@@ -4,17 +4,11 @@ use borrow.Author.Rules.{rules}
 use mir.Syntax.{w8}
 use mir.ValLaws.{to_z-of_z}
 use Rattle.choice.proofs.Ranges.{few_in}
-use Rattle.answer.specs.Answer.{choice_reply}
 use Rattle.answer.proofs.Lines.{malformed_reply, made_cube, given_length}
 use Rattle.answer.proofs.cube_answer.Goals as goal
 
 pub returns-in_default-clause-reply : goal.returns-in_default-clause-reply
-unfolding choice_reply
 returns-in_default-clause-reply c = malformed_reply _ _ c.parse_line.ensures.line c.in_default.is
-
-pub returns-in_default-clause-long : goal.returns-in_default-clause-long
-unfolding choice_reply
-returns-in_default-clause-long c = λ n. absurd (cc)
 
 pub returns-clause-reply : goal.returns-clause-reply
 returns-clause-reply c =
@@ -24,4 +18,4 @@ pub returns-clause-readings : goal.returns-clause-readings
 returns-clause-readings c = let few = few_in _ _ c.handle_cube.ensures.ranges in omega arith
 
 pub returns-clause-long : goal.returns-clause-long
-returns-clause-long c = λ _. given_length _ _ c.parse_line.ensures.line _ c.in-Some.is
+returns-clause-long c = given_length _ _ c.parse_line.ensures.line _ c.in-Some.is
