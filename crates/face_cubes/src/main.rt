@@ -7,17 +7,17 @@ use output::Output;
 use std::fmt;
 use std::fmt::Write;
 
-// What a line says: an answer, that two faces do not meet, or a refusal.
+// A line: an answer, that two faces do not meet, or a refusal.
 #[derive(Clone, Copy)]
 struct Said(Result<Option<bool>, Refusal>);
 
 impl fmt::Display for Said {
     fn fmt<W: fmt::Write>(&self, f: &mut fmt::Formatter<W>) -> fmt::Result {
         match self.0 {
-            Ok(Some(true)) => write!(f, "yes"),
-            Ok(Some(false)) => write!(f, "no"),
-            Ok(None) => write!(f, "apart"),
-            Err(why) => write!(f, "refused {}", cube::number(why)),
+            Ok(Some(true)) => writeln!(f, "yes"),
+            Ok(Some(false)) => writeln!(f, "no"),
+            Ok(None) => writeln!(f, "apart"),
+            Err(why) => writeln!(f, "refused {}", cube::number(why)),
         }
     }
 }
@@ -61,7 +61,7 @@ fn tests() -> fmt::Result {
         (low([1.0, -1.0, 1.0, -1.0]), -7),
         (low([1.0, f32::INFINITY, 1.0, -1.0]), 6),
     ] {
-        writeln!(Output, "{}", Said(face::test_face(q, Face(n)).map(Some)))?;
+        write!(Output, "{}", Said(face::test_face(q, Face(n)).map(Some)))?;
     }
     Ok(())
 }
@@ -79,7 +79,7 @@ fn comparisons() -> fmt::Result {
         ([2.0, -1.0, 2.0, -1.0], 5, 7),
     ] {
         let said = meeting::compare_faces(low(values), Face(n), below(values), Face(p));
-        writeln!(Output, "{}", Said(said))?;
+        write!(Output, "{}", Said(said))?;
     }
     Ok(())
 }

@@ -1,4 +1,4 @@
--- A byte's value as a digit by the tests that the code makes. Assumes nothing.
+-- A byte's value as a digit: by the definition's tests, and by the code's table. Assumes nothing.
 use mathlib.Core.Path.{◌≡◌, refl, sym, subst}
 use mathlib.Core.Bool.{Bool, true, false, ◌&&◌, true≢false}
 use mathlib.Core.List.{List, [], ◌∷◌}
