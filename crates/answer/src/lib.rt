@@ -145,9 +145,7 @@ fn cube_answer(line: &[u8]) -> Option<Result<Counted, Refusal>>
     ensures readings { IfSome result (λ a. readings_in (said a) ≤ 255) }
     ensures long { IfSome result (λ a. 74 < length line.now) }
 {
-    let Some(parsed) = line::parse_line(line) else {
-        return None;
-    };
+    let parsed = line::parse_line(line)?;
     Some(choice::handle_cube(parsed.case, parsed.configuration, parsed.cube))
 }
 

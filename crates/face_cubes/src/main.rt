@@ -4,8 +4,7 @@
 
 use cube::{Cube, Face, Refusal};
 use output::Output;
-use std::fmt;
-use std::fmt::Write;
+use std::fmt::{self, Write};
 
 // A line: an answer, that two faces do not meet, or a refusal.
 #[derive(Clone, Copy)]

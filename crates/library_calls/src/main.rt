@@ -19,7 +19,7 @@
 // answer from 'Change 6', in exact fractions; lists, refusals, faces, readings and roots from document 01's text.
 #![tactic(auto)]
 
-ghost use Rattle.std.specs.Prelude.{◌≡◌, ◌*◌, ◌<◌, ◌≤◌, length};
+ghost use Rattle.std.specs.Prelude.{◌<◌, ◌≤◌, length};
 
 use cube::Cube;
 use output::Output;

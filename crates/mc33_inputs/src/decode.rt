@@ -3,10 +3,8 @@
 ghost use Rattle.std.specs.Prelude.{◌≤◌};
 ghost use Rattle.arrayvec.specs.ArrayVec.{array_vec_len};
 
+use crate::run::INPUT;
 use arrayvec::ArrayVec;
-
-// Room for a test: its input and its output have up to so many bytes together.
-pub(crate) const ROOM: usize = 131072;
 
 // Where an escape has come to: behind its backslash, behind its `x`, and behind its first digit.
 #[derive(Clone, Copy)]
@@ -34,7 +32,7 @@ fn meaning(letter: u8) -> Option<&'static [u8]> {
 
 // Appends the bytes that a text stands for; none where it has another escape, or one that does not end, or they are more than
 // there is room for.
-pub(crate) fn decode(text: &[u8], room: &mut ArrayVec<u8, ROOM>) -> Option<()>
+pub(crate) fn decode(text: &[u8], room: &mut ArrayVec<u8, INPUT>) -> Option<()>
     ensures { array_vec_len room.old ≤ array_vec_len room.new }
 {
     let mut escape = Escape::Outside;

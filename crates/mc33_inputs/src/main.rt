@@ -11,11 +11,9 @@ mod run;
 ghost use Rattle.std.specs.Prelude.{◌≤◌, length};
 
 use arrayvec::ArrayVec;
-use decode::ROOM;
 use output::Output;
 use run::{INPUT, OUT};
-use std::fmt;
-use std::fmt::Write;
+use std::fmt::{self, Write};
 
 // Room for the tests, and one byte more. Fixed memory, and no heap.
 const FILE: usize = 65537;
@@ -61,7 +59,7 @@ fn test(input: &[u8], output: &[u8], out: &mut ArrayVec<u8, OUT>) -> Tried
     Tried::Differs(runs)
 }
 
-fn try_line(line: &[u8], room: &mut ArrayVec<u8, ROOM>, out: &mut ArrayVec<u8, OUT>) -> Tried {
+fn try_line(line: &[u8], room: &mut ArrayVec<u8, INPUT>, out: &mut ArrayVec<u8, OUT>) -> Tried {
     if line.is_empty() || line.starts_with(b"#") {
         return Tried::Nothing;
     }
@@ -71,7 +69,7 @@ fn try_line(line: &[u8], room: &mut ArrayVec<u8, ROOM>, out: &mut ArrayVec<u8, O
 // The test of a line; none where it has another form.
 fn decoded(
     line: &[u8],
-    room: &mut ArrayVec<u8, ROOM>,
+    room: &mut ArrayVec<u8, INPUT>,
     out: &mut ArrayVec<u8, OUT>,
 ) -> Option<Tried> {
     let arrow = line.array_windows::<4>().position(|four| four == b" => ")?;

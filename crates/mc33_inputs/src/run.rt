@@ -6,7 +6,7 @@ use std::cmp::min;
 use std::ops::ControlFlow;
 use text::PartLine;
 
-// The longest input, and room for what a block of it gives.
+// The longest input, which with its output has no more room than that; and room for what a block of it gives.
 pub(crate) const INPUT: usize = 131072;
 
 pub(crate) const OUT: usize = 131200;
